@@ -1,0 +1,67 @@
+-- Each test of the code is the next test of the definition.
+use mathlib.Core.Path.{subst}
+use Prim.Native.Nat.{ℕ, _/_, _%_, _<_, _≤_}
+use borrow.Author.Tests.{le-leb, lt-leb}
+use Rattle.days.specs.Days.{checked, isDate, monthLength}
+use borrow.Author.Needs.{needs}
+use native.Mathlib.Omega.{arith}
+use Rattle.days.proofs.Date.new.Statement.{statement}
+use Rattle.days.proofs.Date.new.Tie as tie
+
+returns : tie.Need-returns
+unfolding checked isDate
+returns c =
+    let n = c .before .before .args .n in
+    simp (lt-leb 20000101 n (omega arith))
+
+returns-2 : tie.Need-returns-2
+unfolding checked isDate
+returns-2 c =
+    let n = c .before .before .before .before .args .n in
+    simp (le-leb 20000101 n (omega arith), lt-leb n 20391231 (omega arith))
+
+returns-3 : tie.Need-returns-3
+unfolding checked isDate
+returns-3 c =
+    let n = c .before .before .before .before .before .args .n in
+    simp (le-leb 20000101 n (omega arith), le-leb n 20391231 (omega arith), lt-leb 1 (n / 100 % 100) (omega arith))
+
+returns-4 : tie.Need-returns-4
+unfolding checked isDate
+returns-4 c =
+    let n = c .before .before .before .before .before .before .args .n in
+    simp (le-leb 20000101 n (omega arith), le-leb n 20391231 (omega arith), le-leb 1 (n / 100 % 100) (omega arith), lt-leb (n / 100 % 100) 12 (omega arith))
+
+returns-5 : tie.Need-returns-5
+unfolding checked isDate
+returns-5 c =
+    let n = c .before .before .before .before .before .before .before .args .n in
+    simp (le-leb 20000101 n (omega arith), le-leb n 20391231 (omega arith), le-leb 1 (n / 100 % 100) (omega arith), le-leb (n / 100 % 100) 12 (omega arith), lt-leb 1 (n % 100) (omega arith))
+
+month-length-requires : tie.Need-month-length-requires
+month-length-requires c κs = search needs
+
+returns-6 : tie.Need-returns-6
+unfolding checked isDate
+returns-6 c =
+    let n = c .before .before .before .before .before .before .before .before .before .args .n in
+    simp (le-leb 20000101 n (omega arith), le-leb n 20391231 (omega arith), le-leb 1 (n / 100 % 100) (omega arith), le-leb (n / 100 % 100) 12 (omega arith), le-leb 1 (n % 100) (omega arith), lt-leb (n % 100) (monthLength (n / 10000) (n / 100 % 100)) (subst (λ (l : ℕ). l < n % 100) (c .before .month-length .ensures) (c .if6 .taken)))
+
+returns-7 : tie.Need-returns-7
+unfolding checked isDate
+returns-7 c =
+    let n = c .before .before .before .before .before .before .before .before .before .args .n in
+    simp (le-leb 20000101 n (omega arith), le-leb n 20391231 (omega arith), le-leb 1 (n / 100 % 100) (omega arith), le-leb (n / 100 % 100) 12 (omega arith), le-leb 1 (n % 100) (omega arith), le-leb (n % 100) (monthLength (n / 10000) (n / 100 % 100)) (subst (λ (l : ℕ). n % 100 ≤ l) (c .before .month-length .ensures) (c .if6 .left)))
+
+pub new-spec : {M : Type 1} → statement M
+new-spec =
+    tie.close
+    (tie.spec
+    returns
+    returns-2
+    returns-3
+    returns-4
+    returns-5
+    month-length-requires
+    returns-6
+    returns-7)

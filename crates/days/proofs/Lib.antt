@@ -1,0 +1,6 @@
+pub mod Lengths
+pub mod Parts
+pub mod Bits
+pub mod Months
+pub mod OpenDays
+pub mod Rows
