@@ -48,3 +48,16 @@ unfolding all
 all-append p [] ys s t = t
 all-append p (x ∷ xs) ys s t =
     and-both (and-left (p x) (all p xs) s) (all-append p xs ys (and-right (p x) (all p xs) s) t)
+
+-- a weaker test
+pub all-weaken : {A : Type 0} (p q : A → Bool) (xs : List A) → all p xs ≡ true → ((x : A) → p x ≡ true → q x ≡ true) → all q xs ≡ true
+unfolding all
+all-weaken p q [] t h = refl
+all-weaken p q (x ∷ xs) t h =
+    and-both (h x (and-left (p x) (all p xs) t)) (all-weaken p q xs (and-right (p x) (all p xs) t) h)
+
+-- a test that every element passes
+pub all-each : {A : Type 0} (p : A → Bool) (xs : List A) → ((x : A) → p x ≡ true) → all p xs ≡ true
+unfolding all
+all-each p [] h = refl
+all-each p (x ∷ xs) h = and-both (h x) (all-each p xs h)

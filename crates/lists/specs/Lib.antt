@@ -5,3 +5,5 @@ pub mod Numbers
 pub mod Fields
 pub mod First
 pub mod Sums
+pub mod Select
+pub mod Tabulate

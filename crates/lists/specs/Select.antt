@@ -1,0 +1,112 @@
+-- The elements that pass a test, the last elements of a list, and lists whose keys rise.
+use mathlib.Core.Path.{_≡_, refl, sym, ap, _∙_}
+use mathlib.Core.Bool.{Bool, true, false, cond, _&&_}
+use mathlib.Core.List.{List, [], _∷_}
+use Prim.Native.Nat.{ℕ, zero, suc, _-_, _≤_, _<_}
+use native.Mathlib.Omega.{arith}
+use lib.Dec.{ltb}
+use lib.ListN.{length, drop}
+use lib.Seq.{drop-nil}
+use borrow.Author.Tests.{ltb-true, ltb-false}
+use Rattle.lists.specs.Tests.{and-left, and-right, and-both}
+use Rattle.lists.specs.All.{all}
+
+-- the elements that pass the test, in their order
+unfoldable pub select : {A : Type 0} → (A → Bool) → List A → List A
+select p [] = []
+select p (x ∷ xs) = cond (p x) (x ∷ select p xs) (select p xs)
+
+-- the last n elements, all of them where there are no more
+unfoldable pub lastOf : {A : Type 0} → ℕ → List A → List A
+lastOf n xs = drop (length xs - n) xs
+
+-- each element's key is above those of the elements before it
+unfoldable pub rising : {A : Type 0} → (A → ℕ) → List A → Bool
+rising key [] = true
+rising key (x ∷ xs) = all (λ y. ltb (key x) (key y)) xs && rising key xs
+
+module _ {A : Type 0} where
+  -- ---- selecting
+
+  pub all-select : (q p : A → Bool) (xs : List A) → all q xs ≡ true → all q (select p xs) ≡ true
+  unfolding all select
+  all-select q p [] t = refl
+  all-select q p (x ∷ xs) t = go (p x) (all-select q p xs (and-right (q x) (all q xs) t))
+    where
+      go : (b : Bool) → all q (select p xs) ≡ true → all q (cond b (x ∷ select p xs) (select p xs)) ≡ true
+      go true ih = and-both (and-left (q x) (all q xs) t) ih
+      go false ih = ih
+
+  -- where the elements pass a test, only what is said of such elements matters
+  pub select-agree : (f g q : A → Bool) (xs : List A) → all q xs ≡ true → ((x : A) → q x ≡ true → f x ≡ g x) → select f xs ≡ select g xs
+  unfolding all select
+  select-agree f g q [] t h = refl
+  select-agree f g q (x ∷ xs) t h =
+      rw (h x (and-left (q x) (all q xs) t), select-agree f g q xs (and-right (q x) (all q xs) t) h)
+
+  -- two tests one after the other are one
+  pub select-both : (f g : A → Bool) (xs : List A) → select f (select g xs) ≡ select (λ x. f x && g x) xs
+  unfolding select
+  select-both f g [] = refl
+  select-both f g (x ∷ xs) = go (g x) (select-both f g xs)
+    where
+      both : List A
+      both = select (λ x. f x && g x) xs
+
+      kept : (a : Bool) (l : List A) → l ≡ both → cond a (x ∷ l) l ≡ cond (a && true) (x ∷ both) both
+      kept true l e = ap (_∷_ x) e
+      kept false l e = e
+
+      left-out : (a : Bool) (l : List A) → l ≡ both → l ≡ cond (a && false) (x ∷ both) both
+      left-out true l e = e
+      left-out false l e = e
+
+      go : (b : Bool) → select f (select g xs) ≡ both
+          → select f (cond b (x ∷ select g xs) (select g xs)) ≡ cond (f x && b) (x ∷ both) both
+      go true ih = kept (f x) (select f (select g xs)) ih
+      go false ih = left-out (f x) (select f (select g xs)) ih
+
+  -- ---- the last elements
+
+  pub last-none : (n : ℕ) → lastOf {A = A} n [] ≡ []
+  unfolding lastOf
+  last-none n = drop-nil (0 - n)
+
+  -- one more element in front
+  pub last-front : (n : ℕ) (x : A) (xs : List A) → lastOf n (x ∷ xs) ≡ cond (ltb (length xs) n) (x ∷ lastOf n xs) (lastOf n xs)
+  unfolding lastOf
+  last-front n x xs = go (ltb (length xs) n) refl
+    where
+      go : (b : Bool) → ltb (length xs) n ≡ b
+          → drop (length (x ∷ xs) - n) (x ∷ xs) ≡ cond b (x ∷ drop (length xs - n) xs) (drop (length xs - n) xs)
+      go true e =
+          let h = ltb-true (length xs) n e in
+          let a : length (x ∷ xs) - n ≡ 0 = omega arith in
+          let b : length xs - n ≡ 0 = omega arith in
+          rw (a, b)
+      go false e =
+          let h = ltb-false (length xs) n e in
+          let a : length (x ∷ xs) - n ≡ suc (length xs - n) = omega arith in
+          rw a
+
+  pub all-drop : (q : A → Bool) (k : ℕ) (xs : List A) → all q xs ≡ true → all q (drop k xs) ≡ true
+  unfolding all
+  all-drop q zero xs t = t
+  all-drop q (suc k) [] t = refl
+  all-drop q (suc k) (x ∷ xs) t = all-drop q k xs (and-right (q x) (all q xs) t)
+
+  pub all-last : (q : A → Bool) (n : ℕ) (xs : List A) → all q xs ≡ true → all q (lastOf n xs) ≡ true
+  unfolding lastOf
+  all-last q n xs t = all-drop q (length xs - n) xs t
+
+  -- ---- rising keys
+
+  pub rising-select : (key : A → ℕ) (p : A → Bool) (xs : List A) → rising key xs ≡ true → rising key (select p xs) ≡ true
+  unfolding rising select
+  rising-select key p [] t = refl
+  rising-select key p (x ∷ xs) t =
+      go (p x) (rising-select key p xs (and-right (all (λ y. ltb (key x) (key y)) xs) (rising key xs) t))
+    where
+      go : (b : Bool) → rising key (select p xs) ≡ true → rising key (cond b (x ∷ select p xs) (select p xs)) ≡ true
+      go true ih = and-both (all-select _ p xs (and-left (all (λ y. ltb (key x) (key y)) xs) (rising key xs) t)) ih
+      go false ih = ih

@@ -1,0 +1,2 @@
+pub mod Securities
+pub mod Cases
