@@ -13,7 +13,7 @@ use lib.ListN.{length, drop, getD, length-drop}
 use lib.Seq.{getD-drop}
 use borrow.Author.Tests.{eqb-true, eqb-false, ltb-true, ltb-false, leb-false}
 use Rattle.lists.specs.Tests.{and-left, and-right, and-both, or-false-left, or-false-right, cond-true, cond-false}
-use Rattle.days.specs.Days.{dayOf, isDate, wordOf, dateOf, lengthOf, bitOn, badFrom, badCalendar, isOpen, lowestFrom, seekFrom, openAt, openAfter, openFrom, highestBelow, lastBelow, lastOpen, asDay, dayNumber}
+use Rattle.days.specs.Days.{lastDate, dayOf, isDate, wordOf, dateOf, lengthOf, bitOn, badFrom, badCalendar, isOpen, lowestFrom, seekFrom, openAt, openAfter, openFrom, highestBelow, lastBelow, lastOpen, asDay, dayNumber}
 use Rattle.days.specs.declared.Date.{Date}
 use Rattle.days.specs.declared.Day.{Day}
 use Rattle.days.specs.declared.Day.the-variants.{On, Nothing}
@@ -254,6 +254,26 @@ module _ {calendar : List ℕ} (kept : Kept calendar) (n : ℕ) where
 
     pub from-first : (x : ℕ) → isOpen calendar x ≡ true → n ≤ x → (0 < openFrom calendar n) × (openFrom calendar n ≤ x)
     from-first x o h = from-searched .first x o (place-order n x d (open-date calendar x o) h)
+
+-- ---- a day found is no later than the last date
+
+open-small : (calendar : List ℕ) (r : ℕ) → ((r ≡ 0 → ⊥) → isOpen calendar r ≡ true) → r ≤ lastDate
+open-small calendar zero h = omega arith
+open-small calendar (suc r) h = parts (suc r) (open-date calendar (suc r) (h (λ e. omega arith))) .to
+
+pub after-small : {calendar : List ℕ} → Kept calendar → (n : ℕ) → openAfter calendar n ≤ lastDate
+after-small {calendar} k n = go (isDate n) refl
+  where
+    go : (b : Bool) → isDate n ≡ b → openAfter calendar n ≤ lastDate
+    go true d = open-small calendar (openAfter calendar n) (after-open k n d)
+    go false d = rw (after-none k n d) (omega arith)
+
+pub from-small : {calendar : List ℕ} → Kept calendar → (n : ℕ) → openFrom calendar n ≤ lastDate
+from-small {calendar} k n = go (isDate n) refl
+  where
+    go : (b : Bool) → isDate n ≡ b → openFrom calendar n ≤ lastDate
+    go true d = open-small calendar (openFrom calendar n) (from-open k n d)
+    go false d = rw (from-none k n d) (omega arith)
 
 -- ---- the last open day
 

@@ -61,3 +61,11 @@ pub all-each : {A : Type 0} (p : A → Bool) (xs : List A) → ((x : A) → p x 
 unfolding all
 all-each p [] h = refl
 all-each p (x ∷ xs) h = and-both (h x) (all-each p xs h)
+
+-- two tests at once
+pub all-both : {A : Type 0} (p q : A → Bool) (xs : List A) → all p xs ≡ true → all q xs ≡ true → all (λ x. p x && q x) xs ≡ true
+unfolding all
+all-both p q [] s t = refl
+all-both p q (x ∷ xs) s t =
+    and-both (and-both (and-left (p x) (all p xs) s) (and-left (q x) (all q xs) t))
+    (all-both p q xs (and-right (p x) (all p xs) s) (and-right (q x) (all q xs) t))

@@ -103,6 +103,15 @@ unfolding firstOf
 next-group [] ys o = refl
 next-group (c ∷ xs) ys o = rw (o .0) (next-group xs ys (o .1))
 
+-- where none of all applies, none of a group does
+pub none-left : (xs ys : List Cause) → NoneApplies (xs ++ ys) → NoneApplies xs
+none-left [] ys n = tt
+none-left (c ∷ xs) ys n = (n .0, none-left xs ys (n .1))
+
+pub none-right : (xs ys : List Cause) → NoneApplies (xs ++ ys) → NoneApplies ys
+none-right [] ys n = n
+none-right (c ∷ xs) ys n = none-right xs ys (n .1)
+
 pub numbered-append : (xs ys : List Cause) → numbered xs ≡ true → numbered ys ≡ true → numbered (xs ++ ys) ≡ true
 unfolding numbered
 numbered-append [] ys s t = t

@@ -1,0 +1,3 @@
+pub mod Words
+pub mod Judged
+pub mod Rows

@@ -1,0 +1,99 @@
+-- Computed rows: what each tracking code does to 4,096 balances, when it is refused, and which calendars, tables, days and balances
+-- are sound.
+use mathlib.Core.Path.{_≡_, refl}
+use mathlib.Core.Bool.{Bool, true, false, cond, _&&_, _||_}
+use mathlib.Core.List.{List, [], _∷_}
+use Prim.Native.Nat.{ℕ, _+_, _*_}
+use lib.Dec.{eqb}
+use lib.ListN.{getD, replicate, set}
+use Rattle.lists.specs.Tests.{below}
+use Rattle.lists.specs.All.{all}
+use Rattle.lists.specs.First.{firstOf}
+use Rattle.days.specs.Days.{leapDay, monthLength, isDate, wordOf, dateOf, lengthOf, bitOn, badFrom, badCalendar, isOpen, lowestFrom, seekFrom, openAt, openAfter, highestBelow, lastBelow, lastOpen}
+use Rattle.days.specs.Weekdays.{isWeekday, weekdayWord, weekdaysFrom, weekdays}
+use Rattle.records.specs.declared.Transfer.{Transfer}
+use Rattle.securities.specs.Securities.{securityOf, typeOf, frequencyOf, rowOf, rowsFrom, rowsOf, isEmpty, goodRow, goodRows, goodSecurity, goodTables}
+use Rattle.securities.specs.Cases.{caseTables}
+use Rattle.book.specs.Book.{word, position, balanceAt, layout}
+use Rattle.book.specs.Loans.{increasing, decreasing, bySender, byReceiver, changeOf, changed, aboveBalance, pastLimit}
+use Rattle.book.specs.Soundness.{wrongLength, badDay, goodBalance, goodBalancesFrom, badBalances, tableCauses, bookCauses, openingCauses}
+
+-- ---- loans
+
+-- account 1 has lent account 2 40,000, and account 2 has lent account 1 9,000,000,000, in security 3
+held : List ℕ
+held = set (set (replicate 4096 0) (256 * 3 + 16 * 1 + 2) 40000) (256 * 3 + 16 * 2 + 1) 9000000000
+
+-- a transfer from account 1 to account 2, or back, in security 3
+sent : ℕ → ℕ → ℕ → ℕ → Transfer
+sent sender receiver code par = record { sender = sender; receiver = receiver; security = 3; class = 0; code = code; par = par }
+
+-- sender, receiver, code and par; the two balances after it; whether 7 and 8 apply, as 1 or 0
+record Row : Type 0 where
+  transfer : Transfer
+  lent : ℕ
+  borrowed : ℕ
+  above : ℕ
+  past : ℕ
+
+abbrev row : Transfer → ℕ → ℕ → ℕ → ℕ → Row
+row t l b a p = record { transfer = t; lent = l; borrowed = b; above = a; past = p }
+
+rows : List Row
+rows =
+    row (sent 1 2 0 100) 40000 9000000000 0 0
+    ∷ row (sent 1 2 1 100) 40100 9000000000 0 0
+    ∷ row (sent 1 2 4 100) 40100 9000000000 0 0
+    ∷ row (sent 1 2 5 100) 40100 9000000000 0 0
+    ∷ row (sent 2 1 2 100) 39900 9000000000 0 0
+    ∷ row (sent 2 1 3 40000) 0 9000000000 0 0
+    ∷ row (sent 2 1 6 40001) 0 9000000000 1 0
+    ∷ row (sent 1 2 2 100) 40000 8999999900 0 0
+    ∷ row (sent 1 2 3 100) 40000 8999999900 0 0
+    ∷ row (sent 1 2 6 100) 40000 8999999900 0 0
+    ∷ row (sent 2 1 1 1) 40000 9000000001 0 1
+    ∷ row (sent 1 2 7 100) 40000 9000000000 0 0
+    ∷ []
+
+flag : Bool → ℕ
+flag b = cond b 1 0
+
+holds : Row → Bool
+holds r =
+    let t = r .transfer in
+    let after = changed held (changeOf t) (t .par) in
+    eqb (getD after (256 * 3 + 16 * 1 + 2) 0) (r .lent)
+    && eqb (getD after (256 * 3 + 16 * 2 + 1) 0) (r .borrowed)
+    && eqb (flag (aboveBalance held (changeOf t) (t .par))) (r .above)
+    && eqb (flag (pastLimit held (changeOf t) (t .par))) (r .past)
+
+-- ---- soundness
+
+number : List ℕ → List ℕ → ℕ → List ℕ → ℕ
+number calendar tables day balances = firstOf (bookCauses calendar tables day balances)
+
+zeros : List ℕ
+zeros = replicate 4096 0
+
+judged : Bool
+judged =
+    eqb (number weekdays caseTables 20230404 zeros) 0
+    && eqb (number weekdays caseTables 20230404 held) 0
+    && eqb (number (replicate 479 0) caseTables 20230404 zeros) 1
+    && eqb (number weekdays (replicate 1825 0) 20230404 zeros) 1
+    && eqb (number [] [] 0 []) 1
+    && eqb (number weekdays caseTables 20230404 (replicate 4095 0)) 1
+    && eqb (number (set weekdays 1 4294967295) (set caseTables 0 9) 20230404 zeros) 2
+    && eqb (number weekdays (set caseTables 0 9) 20230405 (set zeros 0 1)) 3
+    && eqb (number weekdays caseTables 20230401 zeros) 4
+    && eqb (number weekdays caseTables 20391230 zeros) 4
+    && eqb (number weekdays caseTables 0 zeros) 4
+    && eqb (number weekdays caseTables 20230404 (set zeros (256 * 3 + 16 * 5 + 5) 1)) 4
+    && eqb (number weekdays caseTables 20230404 (set zeros 4094 9000000001)) 4
+    && eqb (number weekdays caseTables 20230404 (set zeros 4094 9000000000)) 0
+    && eqb (firstOf (openingCauses weekdays caseTables (set zeros 0 1) 20230404)) 0
+    && eqb (firstOf (openingCauses weekdays caseTables (set zeros 0 1) 20230401)) 4
+
+rows-hold : all holds rows && judged ≡ true
+unfolding held sent rows flag holds number zeros judged below all firstOf leapDay monthLength isDate wordOf dateOf lengthOf bitOn badFrom badCalendar isOpen lowestFrom seekFrom openAt openAfter highestBelow lastBelow lastOpen isWeekday weekdayWord weekdaysFrom weekdays securityOf typeOf frequencyOf rowOf rowsFrom rowsOf isEmpty goodRow goodRows goodSecurity goodTables caseTables word position balanceAt layout increasing decreasing bySender byReceiver changeOf changed aboveBalance pastLimit wrongLength badDay goodBalance goodBalancesFrom badBalances tableCauses bookCauses openingCauses
+rows-hold = refl

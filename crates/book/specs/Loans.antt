@@ -1,0 +1,49 @@
+-- Document 01, section Loans: what a transfer does to the par on loan.
+use mathlib.Core.Bool.{Bool, true, false, cond, _||_}
+use mathlib.Core.List.{List}
+use Prim.Native.Nat.{ℕ, _+_, _-_}
+use lib.Dec.{eqb, ltb}
+use lib.ListN.{set}
+use Rattle.records.specs.declared.Transfer.{Transfer}
+use Rattle.book.specs.Book.{largestBalance, Position, word, balanceAt}
+
+-- Codes 1 start, 4 return reversal and 5 balance-only increase add par to what the sender has lent the receiver.
+unfoldable pub increasing : ℕ → Bool
+increasing code = eqb code 1 || eqb code 4 || eqb code 5
+
+unfoldable pub bySender : Transfer → Position
+bySender t = record { security = t .security; lender = t .sender; borrower = t .receiver }
+
+-- Codes 2 start reversal, 3 return and 6 balance-only decrease take par from what the receiver has lent the sender.
+unfoldable pub decreasing : ℕ → Bool
+decreasing code = eqb code 2 || eqb code 3 || eqb code 6
+
+unfoldable pub byReceiver : Transfer → Position
+byReceiver t = record { security = t .security; lender = t .receiver; borrower = t .sender }
+
+-- Loans each way stand beside each other: a transfer changes one position, or none.
+pub data Change : Type 0 where
+  unchanged : Change
+  increase : Position → Change
+  decrease : Position → Change
+
+unfoldable pub changeOf : Transfer → Change
+changeOf t = cond (increasing (t .code)) (increase (bySender t)) (cond (decreasing (t .code)) (decrease (byReceiver t)) unchanged)
+
+-- The balances after a change of par.
+unfoldable pub changed : List ℕ → Change → ℕ → List ℕ
+changed balances unchanged par = balances
+changed balances (increase p) par = set balances (word p) (balanceAt balances p + par)
+changed balances (decrease p) par = set balances (word p) (balanceAt balances p - par)
+
+-- A decrease above the balance: number 7.
+unfoldable pub aboveBalance : List ℕ → Change → ℕ → Bool
+aboveBalance balances unchanged par = false
+aboveBalance balances (increase p) par = false
+aboveBalance balances (decrease p) par = ltb (balanceAt balances p) par
+
+-- An increase past 9,000,000,000: number 8.
+unfoldable pub pastLimit : List ℕ → Change → ℕ → Bool
+pastLimit balances unchanged par = false
+pastLimit balances (increase p) par = ltb largestBalance (balanceAt balances p + par)
+pastLimit balances (decrease p) par = false

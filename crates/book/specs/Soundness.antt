@@ -1,0 +1,49 @@
+-- Document 01, What can be refused, numbers 1 to 4: calendar, tables, day and balances that a call can work on.
+use mathlib.Core.Bool.{Bool, true, false, not, _&&_, _||_}
+use mathlib.Core.List.{List, [], _∷_, _++_}
+use Prim.Native.Nat.{ℕ, suc}
+use lib.Dec.{eqb, leb}
+use lib.ListN.{length}
+use Rattle.lists.specs.First.{Cause, cause}
+use Rattle.days.specs.Days.{calendarWords, badCalendar, isOpen, openAfter}
+use Rattle.securities.specs.Securities.{tableWords, goodTables}
+use Rattle.book.specs.Book.{balanceWords, largestBalance, Position, position}
+
+-- Calendar, tables or balances of wrong length: number 1.
+unfoldable pub wrongLength : List ℕ → List ℕ → List ℕ → Bool
+wrongLength calendar tables balances =
+    not (eqb (length calendar) calendarWords) || not (eqb (length tables) tableWords) || not (eqb (length balances) balanceWords)
+
+-- The day is not open, or none after it is: number 4.
+unfoldable pub badDay : List ℕ → ℕ → Bool
+badDay calendar day = not (isOpen calendar day) || eqb (openAfter calendar day) 0
+
+-- A balance that is not too large, and zero where an account would lend itself.
+unfoldable pub goodBalance : Position → ℕ → Bool
+goodBalance p par = leb par largestBalance && (not (eqb (p .lender) (p .borrower)) || eqb par 0)
+
+-- Balances from word w on.
+unfoldable pub goodBalancesFrom : ℕ → List ℕ → Bool
+goodBalancesFrom w [] = true
+goodBalancesFrom w (par ∷ pars) = goodBalance (position w) par && goodBalancesFrom (suc w) pars
+
+-- A balance too large or nonzero with itself: number 4.
+unfoldable pub badBalances : List ℕ → Bool
+badBalances balances = not (goodBalancesFrom 0 balances)
+
+-- Numbers 1 to 3, which every call can meet.
+unfoldable pub tableCauses : List ℕ → List ℕ → List ℕ → List Cause
+tableCauses calendar tables balances =
+    cause 1 (wrongLength calendar tables balances)
+    ∷ cause 2 (badCalendar calendar)
+    ∷ cause 3 (not (goodTables calendar tables))
+    ∷ []
+
+-- Numbers 1 to 4 of a transfer and a close; calendar, tables, book and balances are sound where none applies.
+unfoldable pub bookCauses : List ℕ → List ℕ → ℕ → List ℕ → List Cause
+bookCauses calendar tables day balances =
+    tableCauses calendar tables balances ++ (cause 4 (badDay calendar day || badBalances balances) ∷ [])
+
+-- Opening can meet only 1 to 4, and for 4 only the day's causes.
+unfoldable pub openingCauses : List ℕ → List ℕ → List ℕ → ℕ → List Cause
+openingCauses calendar tables balances day = tableCauses calendar tables balances ++ (cause 4 (badDay calendar day) ∷ [])

@@ -1,0 +1,8 @@
+// The book and its balances (document 01, sections The book and Loans).
+
+// A book's day and the number of its accepted transfers.
+#[repr(C)]
+pub struct Book {
+    pub day: u32,
+    pub count: u32,
+}

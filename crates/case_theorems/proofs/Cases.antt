@@ -1,0 +1,342 @@
+-- The cases marked P, the mistakes that document 01 rules out, and a list of calls, each as a row: an opening, calls with real message
+-- bytes, and every answer written out. One theorem covers all rows, run on the stored book and judged by the ledger, at full size: 480
+-- words of calendar, 1,824 of tables, 4,096 balances.
+use mathlib.Core.Path.{_≡_, refl}
+use mathlib.Core.Bool.{Bool, true, false, _&&_}
+use mathlib.Core.List.{List, [], _∷_, _++_}
+use Prim.Native.Nat.{ℕ, zero, suc, _+_, _-_, _*_, _/_, _%_, _^_}
+use lib.Dec.{eqb}
+use lib.ListN.{length, getD, replicate, set}
+use Rattle.lists.specs.Tests.{below}
+use Rattle.lists.specs.All.{all}
+use Rattle.lists.specs.Numbers.{bytesOf, numberOf}
+use Rattle.lists.specs.Fields.{total, encode, decode}
+use Rattle.lists.specs.First.{firstOf}
+use Rattle.lists.specs.Sums.{sum}
+use Rattle.lists.specs.Select.{select, lastOf}
+use Rattle.lists.specs.Tabulate.{tabulate, each, eachOf}
+use Rattle.days.specs.Days.{leapDay, monthLength, isDate, wordOf, dateOf, lengthOf, bitOn, badFrom, badCalendar, isOpen, lowestFrom, seekFrom, openAt, openAfter, openFrom, highestBelow, lastBelow, lastOpen}
+use Rattle.days.specs.Weekdays.{isWeekday, weekdayWord, weekdaysFrom, weekdays}
+use Rattle.records.specs.MessageRecords.{transferKind, closeKind, claimKind, size, recordBytes, claimValues, transferOf, firstLine, secondLine, headed, reads}
+use Rattle.securities.specs.Securities.{securityOf, typeOf, frequencyOf, Row, rowOf, rowsFrom, rowsOf, isEmpty, isFilled, filledRows, goodRow, goodRows, goodSecurity, goodTables}
+use Rattle.securities.specs.Cases.{caseTables}
+use Rattle.tags.specs.ContractDateTag.{opener, same, tagged, openersFrom, openers, endIn, endFrom, isDigit, digitsAfter, digitsNumber, writesDate, tagHolding, tagAt, tagOf, contractDate, isSeveral, isUnended, isNotDate, editCauses}
+use Rattle.claims.specs.Amounts.{centsOn, amount, outcomeOf, isLate, releaseOf, isEarly, slotOf, claimOn}
+use Rattle.claims.specs.Fails.{messageTag, maximumNumbers, maximumFor, eligibleIn, eligible, fails, dues, transferParties, transferClaims}
+use Rattle.claims.specs.Close.{crosses, crossed, loanParties, loanClaim, securityBalances, lenderBalances, rowClaims, closeClaims}
+use Rattle.claims.specs.Written.{claimBytes, bytesOfAll, written}
+use Rattle.book.specs.Book.{word, position, balanceAt, layout}
+use Rattle.book.specs.Loans.{increasing, decreasing, bySender, byReceiver, changeOf, changed, aboveBalance, pastLimit}
+use Rattle.book.specs.Soundness.{wrongLength, badDay, goodBalance, goodBalancesFrom, badBalances, tableCauses, bookCauses, openingCauses}
+use Rattle.history.specs.Calls.{Call, transfer, close, bufferOf, claimsOf}
+use Rattle.history.specs.Causes.{recordCauses, outOfRange, fieldCauses, countCauses, loanCauses, lastDayCauses, roomCauses, callCauses, causes, numberFor, openingNumber}
+use Rattle.history.specs.Results.{Answer, nextBook, nextBalances, resultFor, result, openedFor, opened, Run, run, runFrom}
+use Rattle.history.specs.Ledger.{started, isIncrease, isDecrease, increasedBy, decreasedBy, increases, decreases, parLent, transferCount, transfers, bookOf, balancesOf, numberOn, dayAfter, keep, answerFor, judged}
+
+-- ---- messages
+
+-- the eight digits of a date
+digits : ℕ → List ℕ
+digits n =
+    (48 + n / 10000000) ∷ (48 + n / 1000000 % 10) ∷ (48 + n / 100000 % 10) ∷ (48 + n / 10000 % 10) ∷ (48 + n / 1000 % 10)
+    ∷ (48 + n / 100 % 10) ∷ (48 + n / 10 % 10) ∷ (48 + n % 10) ∷ []
+
+-- a free text line with a Contract Date tag, {98A:CNTR/yyyymmdd}, and a line of spaces
+tagLine : ℕ → List ℕ
+tagLine c = (123 ∷ 57 ∷ 56 ∷ 65 ∷ 58 ∷ 67 ∷ 78 ∷ 84 ∷ 82 ∷ 47 ∷ []) ++ (digits c ++ (125 ∷ replicate 45 32))
+
+blank : List ℕ
+blank = replicate 64 32
+
+-- a claim buffer as found
+found : ℕ → List ℕ
+found n = replicate n 170
+
+-- a transfer in security 0 and class 0 by its sender, receiver, tracking code, par and first line, and the size of its claim buffer
+sent : ℕ → ℕ → ℕ → ℕ → List ℕ → ℕ → Call
+sent sender receiver code par line room =
+    transfer (record {
+      message = (139 ∷ 0 ∷ 1 ∷ 0 ∷ sender ∷ receiver ∷ 0 ∷ 0 ∷ code ∷ (par % 256) ∷ (par / 256 % 256) ∷ (par / 65536 % 256) ∷ (par / 16777216) ∷ []) ++ (line ++ blank);
+      buffer = found room;
+    })
+
+closed : ℕ → Call
+closed room = close (record { message = 2 ∷ 0 ∷ 2 ∷ 0 ∷ []; buffer = found room })
+
+-- ---- rows
+
+-- the number of an answer, the day and count of its book, its claim count and its claim buffer
+abbrev answer : ℕ → ℕ → ℕ → ℕ → List ℕ → Answer
+answer number day count claims buffer =
+    record { number = number; book = record { day = day; count = count }; claims = claims; buffer = buffer }
+
+-- a word of the balances after the list, and what it holds
+record Word : Type 0 where
+  index : ℕ
+  value : ℕ
+
+abbrev word-of : ℕ → ℕ → Word
+word-of index value = record { index = index; value = value }
+
+record Case : Type 0 where
+  tables : List ℕ
+  day : ℕ
+  calls : List Call
+  answers : List Answer
+  held : List Word
+
+-- an annual Treasury with rows for April 2022 and April 2023
+annualTables : List ℕ
+annualTables =
+    (1 ∷ 4
+    ∷ 20220415 ∷ 20220415 ∷ 20220415 ∷ 20000000 ∷ 0 ∷ 0 ∷ 0
+    ∷ 20230415 ∷ 20230415 ∷ 20230417 ∷ 21000000 ∷ 1000000 ∷ 0 ∷ 0
+    ∷ [])
+    ++ replicate 1808 0
+
+cases : List Case
+cases =
+    -- P: C 20230315, S 20230404, par 200,000: row 0, 100,000 cents, released 20230417, slot 3.
+    (record {
+      tables = caseTables;
+      day = 20230404;
+      calls =
+          sent 1 2 0 200000 (tagLine 20230315) 40
+          ∷ [];
+      answers =
+          answer 0 20230404 1 1 (33 ∷ 0 ∷ 3 ∷ 0 ∷ 1 ∷ 0 ∷ 1 ∷ 2 ∷ 0 ∷ 0 ∷ 1 ∷ 0 ∷ 0 ∷ 0 ∷ 160 ∷ 134 ∷ 1 ∷ 0 ∷ 0 ∷ 0 ∷ 0 ∷ 0 ∷ 0 ∷ 0 ∷ 0 ∷ 0 ∷ 0 ∷ 0 ∷ 0 ∷ 0 ∷ 17 ∷ 177 ∷ 52 ∷ 1 ∷ 3
+          ∷ 170 ∷ 170 ∷ 170 ∷ 170 ∷ 170 ∷ [])
+          ∷ [];
+      held = [];
+    })
+    ∷
+    -- P: S 20230420: released 20230421, slot 2.
+    (record {
+      tables = caseTables;
+      day = 20230420;
+      calls =
+          sent 1 2 0 200000 (tagLine 20230315) 40
+          ∷ [];
+      answers =
+          answer 0 20230420 1 1 (33 ∷ 0 ∷ 3 ∷ 0 ∷ 1 ∷ 0 ∷ 1 ∷ 2 ∷ 0 ∷ 0 ∷ 1 ∷ 0 ∷ 0 ∷ 0 ∷ 160 ∷ 134 ∷ 1 ∷ 0 ∷ 0 ∷ 0 ∷ 0 ∷ 0 ∷ 0 ∷ 0 ∷ 0 ∷ 0 ∷ 0 ∷ 0 ∷ 0 ∷ 0 ∷ 21 ∷ 177 ∷ 52 ∷ 1 ∷ 2
+          ∷ 170 ∷ 170 ∷ 170 ∷ 170 ∷ 170 ∷ [])
+          ∷ [];
+      held = [];
+    })
+    ∷
+    -- P: S 20230509, par 400,000: two claims of 200,000 cents, 20230510 and 20230515.
+    (record {
+      tables = caseTables;
+      day = 20230509;
+      calls =
+          sent 1 2 0 400000 (tagLine 20230315) 75
+          ∷ [];
+      answers =
+          answer 0 20230509 1 2 (33 ∷ 0 ∷ 3 ∷ 0 ∷ 1 ∷ 0 ∷ 1 ∷ 2 ∷ 0 ∷ 0 ∷ 1 ∷ 0 ∷ 0 ∷ 0 ∷ 64 ∷ 13 ∷ 3 ∷ 0 ∷ 0 ∷ 0 ∷ 0 ∷ 0 ∷ 0 ∷ 0 ∷ 0 ∷ 0 ∷ 0 ∷ 0 ∷ 0 ∷ 0 ∷ 110 ∷ 177 ∷ 52 ∷ 1 ∷ 2
+          ∷ 33 ∷ 0 ∷ 3 ∷ 0 ∷ 1 ∷ 0 ∷ 1 ∷ 2 ∷ 0 ∷ 1 ∷ 1 ∷ 0 ∷ 0 ∷ 0 ∷ 64 ∷ 13 ∷ 3 ∷ 0 ∷ 0 ∷ 0 ∷ 0 ∷ 0 ∷ 0 ∷ 0 ∷ 0 ∷ 0 ∷ 0 ∷ 0 ∷ 0 ∷ 0 ∷ 115 ∷ 177 ∷ 52 ∷ 1 ∷ 3
+          ∷ 170 ∷ 170 ∷ 170 ∷ 170 ∷ 170 ∷ [])
+          ∷ [];
+      held = [];
+    })
+    ∷
+    -- P: S 20230331: none.
+    (record {
+      tables = caseTables;
+      day = 20230331;
+      calls =
+          sent 1 2 0 400000 (tagLine 20230315) 5
+          ∷ [];
+      answers =
+          answer 0 20230331 1 0 (170 ∷ 170 ∷ 170 ∷ 170 ∷ 170 ∷ [])
+          ∷ [];
+      held = [];
+    })
+    ∷
+    -- P: C 20230401, S 20230404: none. A rule of C ≤ Beneficiary Date would claim April.
+    (record {
+      tables = caseTables;
+      day = 20230404;
+      calls =
+          sent 1 2 0 400000 (tagLine 20230401) 5
+          ∷ [];
+      answers =
+          answer 0 20230404 1 0 (170 ∷ 170 ∷ 170 ∷ 170 ∷ 170 ∷ [])
+          ∷ [];
+      held = [];
+    })
+    ∷
+    -- P: C 20230405, S 20230515, the Payment Date: May only, slot 2, 20230516.
+    (record {
+      tables = caseTables;
+      day = 20230515;
+      calls =
+          sent 1 2 0 400000 (tagLine 20230405) 40
+          ∷ [];
+      answers =
+          answer 0 20230515 1 1 (33 ∷ 0 ∷ 3 ∷ 0 ∷ 1 ∷ 0 ∷ 1 ∷ 2 ∷ 0 ∷ 1 ∷ 1 ∷ 0 ∷ 0 ∷ 0 ∷ 64 ∷ 13 ∷ 3 ∷ 0 ∷ 0 ∷ 0 ∷ 0 ∷ 0 ∷ 0 ∷ 0 ∷ 0 ∷ 0 ∷ 0 ∷ 0 ∷ 0 ∷ 0 ∷ 116 ∷ 177 ∷ 52 ∷ 1 ∷ 2
+          ∷ 170 ∷ 170 ∷ 170 ∷ 170 ∷ 170 ∷ [])
+          ∷ [];
+      held = [];
+    })
+    ∷
+    -- P: start 50,000, return 20,000, ADSR 15,000: 15,000; from there ADSR 15,001: 7. P: close of 20230331: April's claim on 15,000 is 7,500 cents.
+    (record {
+      tables = caseTables;
+      day = 20230331;
+      calls =
+          sent 1 2 1 50000 blank 5
+          ∷ sent 2 1 3 20000 blank 5
+          ∷ sent 2 1 6 15000 blank 5
+          ∷ sent 2 1 6 15001 blank 5
+          ∷ closed 40
+          ∷ [];
+      answers =
+          answer 0 20230331 1 0 (170 ∷ 170 ∷ 170 ∷ 170 ∷ 170 ∷ [])
+          ∷ answer 0 20230331 2 0 (170 ∷ 170 ∷ 170 ∷ 170 ∷ 170 ∷ [])
+          ∷ answer 0 20230331 3 0 (170 ∷ 170 ∷ 170 ∷ 170 ∷ 170 ∷ [])
+          ∷ answer 7 20230331 3 0 (170 ∷ 170 ∷ 170 ∷ 170 ∷ 170 ∷ [])
+          ∷ answer 0 20230403 3 1 (33 ∷ 0 ∷ 3 ∷ 0 ∷ 3 ∷ 0 ∷ 2 ∷ 1 ∷ 0 ∷ 0 ∷ 0 ∷ 0 ∷ 0 ∷ 0 ∷ 76 ∷ 29 ∷ 0 ∷ 0 ∷ 0 ∷ 0 ∷ 0 ∷ 0 ∷ 0 ∷ 0 ∷ 0 ∷ 0 ∷ 0 ∷ 0 ∷ 0 ∷ 0 ∷ 17 ∷ 177 ∷ 52 ∷ 1 ∷ 3
+          ∷ 170 ∷ 170 ∷ 170 ∷ 170 ∷ 170 ∷ [])
+          ∷ [];
+      held = word-of 18 15000 ∷ word-of 33 0 ∷ [];
+    })
+    ∷
+    -- Of two dates an annual Treasury claims the most recent; filling from the oldest would claim row 0.
+    (record {
+      tables = annualTables;
+      day = 20230418;
+      calls =
+          sent 1 2 0 200000 (tagLine 20220101) 40
+          ∷ [];
+      answers =
+          answer 0 20230418 1 1 (33 ∷ 0 ∷ 3 ∷ 0 ∷ 1 ∷ 0 ∷ 1 ∷ 2 ∷ 0 ∷ 1 ∷ 1 ∷ 0 ∷ 0 ∷ 0 ∷ 160 ∷ 104 ∷ 6 ∷ 0 ∷ 0 ∷ 0 ∷ 0 ∷ 0 ∷ 32 ∷ 78 ∷ 0 ∷ 0 ∷ 0 ∷ 0 ∷ 0 ∷ 0 ∷ 19 ∷ 177 ∷ 52 ∷ 1 ∷ 2
+          ∷ 170 ∷ 170 ∷ 170 ∷ 170 ∷ 170 ∷ [])
+          ∷ [];
+      held = [];
+    })
+    ∷
+    -- The edits hold for a loan code: C after the day gets 138, and nothing is lent.
+    (record {
+      tables = caseTables;
+      day = 20230404;
+      calls =
+          sent 1 2 1 50000 (tagLine 20230405) 5
+          ∷ [];
+      answers =
+          answer 138 20230404 0 0 (170 ∷ 170 ∷ 170 ∷ 170 ∷ 170 ∷ [])
+          ∷ [];
+      held = word-of 18 0 ∷ [];
+    })
+    ∷
+    -- Loans each way stand beside each other: two claims; netting would give one.
+    (record {
+      tables = caseTables;
+      day = 20230331;
+      calls =
+          sent 1 2 1 50000 blank 5
+          ∷ sent 2 1 1 20000 blank 5
+          ∷ closed 75
+          ∷ [];
+      answers =
+          answer 0 20230331 1 0 (170 ∷ 170 ∷ 170 ∷ 170 ∷ 170 ∷ [])
+          ∷ answer 0 20230331 2 0 (170 ∷ 170 ∷ 170 ∷ 170 ∷ 170 ∷ [])
+          ∷ answer 0 20230403 2 2 (33 ∷ 0 ∷ 3 ∷ 0 ∷ 3 ∷ 0 ∷ 2 ∷ 1 ∷ 0 ∷ 0 ∷ 0 ∷ 0 ∷ 0 ∷ 0 ∷ 168 ∷ 97 ∷ 0 ∷ 0 ∷ 0 ∷ 0 ∷ 0 ∷ 0 ∷ 0 ∷ 0 ∷ 0 ∷ 0 ∷ 0 ∷ 0 ∷ 0 ∷ 0 ∷ 17 ∷ 177 ∷ 52 ∷ 1 ∷ 3
+          ∷ 33 ∷ 0 ∷ 3 ∷ 0 ∷ 3 ∷ 0 ∷ 1 ∷ 2 ∷ 0 ∷ 0 ∷ 0 ∷ 0 ∷ 0 ∷ 0 ∷ 16 ∷ 39 ∷ 0 ∷ 0 ∷ 0 ∷ 0 ∷ 0 ∷ 0 ∷ 0 ∷ 0 ∷ 0 ∷ 0 ∷ 0 ∷ 0 ∷ 0 ∷ 0 ∷ 17 ∷ 177 ∷ 52 ∷ 1 ∷ 3
+          ∷ 170 ∷ 170 ∷ 170 ∷ 170 ∷ 170 ∷ [])
+          ∷ [];
+      held = word-of 18 50000 ∷ word-of 33 20000 ∷ [];
+    })
+    ∷
+    -- A Record Date on Saturday 1 April is crossed by the close of Friday 31 March, and not again by the next.
+    (record {
+      tables = caseTables;
+      day = 20230331;
+      calls =
+          sent 1 2 1 50000 blank 5
+          ∷ closed 40
+          ∷ closed 5
+          ∷ [];
+      answers =
+          answer 0 20230331 1 0 (170 ∷ 170 ∷ 170 ∷ 170 ∷ 170 ∷ [])
+          ∷ answer 0 20230403 1 1 (33 ∷ 0 ∷ 3 ∷ 0 ∷ 3 ∷ 0 ∷ 2 ∷ 1 ∷ 0 ∷ 0 ∷ 0 ∷ 0 ∷ 0 ∷ 0 ∷ 168 ∷ 97 ∷ 0 ∷ 0 ∷ 0 ∷ 0 ∷ 0 ∷ 0 ∷ 0 ∷ 0 ∷ 0 ∷ 0 ∷ 0 ∷ 0 ∷ 0 ∷ 0 ∷ 17 ∷ 177 ∷ 52 ∷ 1 ∷ 3
+          ∷ 170 ∷ 170 ∷ 170 ∷ 170 ∷ 170 ∷ [])
+          ∷ answer 0 20230404 1 0 (170 ∷ 170 ∷ 170 ∷ 170 ∷ 170 ∷ [])
+          ∷ [];
+      held = word-of 18 50000 ∷ [];
+    })
+    ∷
+    -- A list: a fail, a start, a return, a return above the balance, a close, a tag after the day, and another fail.
+    (record {
+      tables = caseTables;
+      day = 20230428;
+      calls =
+          sent 3 4 0 200000 (tagLine 20230315) 40
+          ∷ sent 1 2 1 50000 blank 5
+          ∷ sent 2 1 3 20000 blank 5
+          ∷ sent 2 1 3 30001 blank 5
+          ∷ closed 40
+          ∷ sent 3 4 0 1000 (tagLine 20230502) 5
+          ∷ sent 4 3 0 1000 (tagLine 20230428) 40
+          ∷ [];
+      answers =
+          answer 0 20230428 1 1 (33 ∷ 0 ∷ 3 ∷ 0 ∷ 1 ∷ 0 ∷ 3 ∷ 4 ∷ 0 ∷ 0 ∷ 1 ∷ 0 ∷ 0 ∷ 0 ∷ 160 ∷ 134 ∷ 1 ∷ 0 ∷ 0 ∷ 0 ∷ 0 ∷ 0 ∷ 0 ∷ 0 ∷ 0 ∷ 0 ∷ 0 ∷ 0 ∷ 0 ∷ 0 ∷ 101 ∷ 177 ∷ 52 ∷ 1 ∷ 2
+          ∷ 170 ∷ 170 ∷ 170 ∷ 170 ∷ 170 ∷ [])
+          ∷ answer 0 20230428 2 0 (170 ∷ 170 ∷ 170 ∷ 170 ∷ 170 ∷ [])
+          ∷ answer 0 20230428 3 0 (170 ∷ 170 ∷ 170 ∷ 170 ∷ 170 ∷ [])
+          ∷ answer 7 20230428 3 0 (170 ∷ 170 ∷ 170 ∷ 170 ∷ 170 ∷ [])
+          ∷ answer 0 20230501 3 1 (33 ∷ 0 ∷ 3 ∷ 0 ∷ 3 ∷ 0 ∷ 2 ∷ 1 ∷ 0 ∷ 1 ∷ 0 ∷ 0 ∷ 0 ∷ 0 ∷ 152 ∷ 58 ∷ 0 ∷ 0 ∷ 0 ∷ 0 ∷ 0 ∷ 0 ∷ 0 ∷ 0 ∷ 0 ∷ 0 ∷ 0 ∷ 0 ∷ 0 ∷ 0 ∷ 115 ∷ 177 ∷ 52 ∷ 1 ∷ 3
+          ∷ 170 ∷ 170 ∷ 170 ∷ 170 ∷ 170 ∷ [])
+          ∷ answer 138 20230501 3 0 (170 ∷ 170 ∷ 170 ∷ 170 ∷ 170 ∷ [])
+          ∷ answer 0 20230501 4 1 (33 ∷ 0 ∷ 3 ∷ 0 ∷ 1 ∷ 0 ∷ 4 ∷ 3 ∷ 0 ∷ 1 ∷ 4 ∷ 0 ∷ 0 ∷ 0 ∷ 244 ∷ 1 ∷ 0 ∷ 0 ∷ 0 ∷ 0 ∷ 0 ∷ 0 ∷ 0 ∷ 0 ∷ 0 ∷ 0 ∷ 0 ∷ 0 ∷ 0 ∷ 0 ∷ 115 ∷ 177 ∷ 52 ∷ 1 ∷ 3
+          ∷ 170 ∷ 170 ∷ 170 ∷ 170 ∷ 170 ∷ [])
+          ∷ [];
+      held = word-of 18 30000 ∷ word-of 33 0 ∷ word-of 52 0 ∷ [];
+    })
+    ∷ []
+
+-- ---- the test of a row
+
+sameBytes : List ℕ → List ℕ → Bool
+sameBytes [] [] = true
+sameBytes [] (y ∷ ys) = false
+sameBytes (x ∷ xs) [] = false
+sameBytes (x ∷ xs) (y ∷ ys) = eqb x y && sameBytes xs ys
+
+sameAnswers : List Answer → List Answer → Bool
+sameAnswers [] [] = true
+sameAnswers [] (b ∷ bs) = false
+sameAnswers (a ∷ rest) [] = false
+sameAnswers (a ∷ rest) (b ∷ bs) =
+    eqb (a .number) (b .number) && eqb (a .book .day) (b .book .day) && eqb (a .book .count) (b .book .count)
+    && eqb (a .claims) (b .claims) && sameBytes (a .buffer) (b .buffer) && sameAnswers rest bs
+
+-- the run and the ledger give the answers, and the balances after the run and the ledger's hold the words
+runs : Case → Run → Bool
+runs c r = sameAnswers (r .answers) (c .answers) && all (λ w. eqb (getD (r .balances) (w .index) 0) (w .value)) (c .held)
+
+holds : Case → Bool
+holds c =
+    let start = opened weekdays (c .tables) (replicate 4096 7) (c .day) in
+    let judgement = judged weekdays (c .tables) (started (c .day)) (c .calls) in
+    eqb (start .number) 0
+    && runs c (runFrom weekdays (c .tables) start (c .calls))
+    && sameAnswers (judgement .answers) (c .answers)
+    && all (λ w. eqb (getD (balancesOf (judgement .ledger)) (w .index) 0) (w .value)) (c .held)
+
+-- P, the amount rule alone: par 1: 1 cent; with interest factor 4,999,999: 0 cents, outcome 1
+april : ℕ → Row
+april factor =
+    record { index = 0; recordDate = 20230401; beneficiaryDate = 20230401; paymentDate = 20230415; interestFactor = factor; principalFactor = 0; final = 0; mask = 0 }
+
+amounts : Bool
+amounts =
+    eqb (centsOn 1 5000000) 1
+    && eqb (outcomeOf 1 1 (april 5000000) (centsOn 1 5000000) (centsOn 1 0)) 0
+    && eqb (centsOn 1 4999999) 0
+    && eqb (outcomeOf 1 1 (april 4999999) (centsOn 1 4999999) (centsOn 1 0)) 1
+
+-- ---- every row holds
+
+cases-hold : all holds cases && amounts ≡ true
+unfolding digits tagLine blank found sent closed annualTables cases sameBytes sameAnswers runs holds april amounts below all bytesOf numberOf total encode decode firstOf sum select lastOf tabulate each eachOf leapDay monthLength isDate wordOf dateOf lengthOf bitOn badFrom badCalendar isOpen lowestFrom seekFrom openAt openAfter openFrom highestBelow lastBelow lastOpen isWeekday weekdayWord weekdaysFrom weekdays transferKind closeKind claimKind size recordBytes claimValues transferOf firstLine secondLine headed reads securityOf typeOf frequencyOf rowOf rowsFrom rowsOf isEmpty isFilled filledRows goodRow goodRows goodSecurity goodTables caseTables opener same tagged openersFrom openers endIn endFrom isDigit digitsAfter digitsNumber writesDate tagHolding tagAt tagOf contractDate isSeveral isUnended isNotDate editCauses centsOn amount outcomeOf isLate releaseOf isEarly slotOf claimOn messageTag maximumNumbers maximumFor eligibleIn eligible fails dues transferParties transferClaims crosses crossed loanParties loanClaim securityBalances lenderBalances rowClaims closeClaims claimBytes bytesOfAll written word position balanceAt layout increasing decreasing bySender byReceiver changeOf changed aboveBalance pastLimit wrongLength badDay goodBalance goodBalancesFrom badBalances tableCauses bookCauses openingCauses bufferOf claimsOf recordCauses outOfRange fieldCauses countCauses loanCauses lastDayCauses roomCauses callCauses causes numberFor openingNumber nextBook nextBalances resultFor result openedFor opened run runFrom started isIncrease isDecrease increasedBy decreasedBy increases decreases parLent transferCount transfers bookOf balancesOf numberOn dayAfter keep answerFor judged
+cases-hold = refl

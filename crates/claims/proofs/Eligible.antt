@@ -1,0 +1,107 @@
+-- Eligible rows in other words, where Beneficiary Dates rise: a row is eligible exactly when C < Beneficiary Date ≤ S and fewer than
+-- the maximum number of rows have a Beneficiary Date after it and on or before S. Taking the last rows of a rising list is counting
+-- those behind.
+use mathlib.Core.Path.{_≡_, refl, sym, ap, _∙_}
+use mathlib.Core.Logic.{_↔_}
+use mathlib.Core.Bool.{Bool, true, false, cond, _&&_}
+use mathlib.Core.List.{List, [], _∷_, map}
+use Prim.Native.Nat.{ℕ, _≤_, _<_}
+use native.Mathlib.Omega.{arith}
+use lib.ListN.{length}
+use lib.Dec.{ltb, leb}
+use borrow.Author.Tests.{ltb-true, leb-true, lt-ltb, le-ltb, le-leb}
+use Rattle.lists.specs.Tests.{and-left, and-right}
+use Rattle.lists.specs.All.{all}
+use Rattle.lists.specs.Select.{select, lastOf, rising, select-agree, select-both, last-none, last-front, rising-select}
+use Rattle.records.specs.MessageRecords.{transferOf}
+use Rattle.securities.specs.Securities.{Row, filledRows}
+use Rattle.claims.specs.Amounts.{failType}
+use Rattle.claims.specs.Fails.{eligibleIn, eligible, Due, due, fails, dues}
+
+-- the order of a security's rows
+abbrev pub beneficiary : Row → ℕ
+beneficiary row = row .beneficiaryDate
+
+-- a Beneficiary Date after a date and on or before the day
+unfoldable pub isAfter : ℕ → ℕ → Row → Bool
+isAfter day date row = ltb date (row .beneficiaryDate) && leb (row .beneficiaryDate) day
+
+-- fewer than n rows have a Beneficiary Date after this one's and on or before the day
+unfoldable pub isRecent : ℕ → ℕ → List Row → Row → Bool
+isRecent n day rows row = leb (row .beneficiaryDate) day && ltb (length (select (isAfter day (row .beneficiaryDate)) rows)) n
+
+unfoldable pub isEligible : ℕ → ℕ → ℕ → List Row → Row → Bool
+isEligible n contract day rows row = ltb contract (row .beneficiaryDate) && isRecent n day rows row
+
+pub eligible-words : (n contract day : ℕ) (rows : List Row) (row : Row)
+    → (isEligible n contract day rows row ≡ true)
+    ↔ ((contract < row .beneficiaryDate) × (row .beneficiaryDate ≤ day) × (length (select (isAfter day (row .beneficiaryDate)) rows) < n))
+unfolding isEligible isRecent
+eligible-words n contract day rows row = (
+  λ e. let r = and-right (ltb contract (row .beneficiaryDate)) _ e in (
+    ltb-true contract (row .beneficiaryDate) (and-left _ _ e),
+    leb-true (row .beneficiaryDate) day (and-left _ _ r),
+    ltb-true _ n (and-right (leb (row .beneficiaryDate) day) _ r),
+  ),
+  λ h. rw (lt-ltb contract (row .beneficiaryDate) (h .0), le-leb (row .beneficiaryDate) day (h .1), lt-ltb _ n (h .2)),
+)
+
+-- the rows behind a row of a rising list are the later ones
+later-behind : (day : ℕ) (row : Row) (rows : List Row) → all (λ other. ltb (row .beneficiaryDate) (other .beneficiaryDate)) rows ≡ true
+    → select (isAfter day (row .beneficiaryDate)) (row ∷ rows) ≡ select (λ other. leb (other .beneficiaryDate) day) rows
+unfolding select isAfter
+later-behind day row rows e =
+    rw (le-ltb (row .beneficiaryDate) (row .beneficiaryDate) (omega arith)) (select-agree _ _ _ rows e (λ other h. rw h))
+
+-- an earlier row in front changes nothing for those behind
+front-agrees : (n day : ℕ) (row : Row) (others rows : List Row) → all (λ other. ltb (row .beneficiaryDate) (other .beneficiaryDate)) rows ≡ true
+    → select (isRecent n day (row ∷ others)) rows ≡ select (isRecent n day others) rows
+front-agrees n day row others rows e =
+    select-agree _ _ _ rows e
+    (λ other h. let l = ltb-true (row .beneficiaryDate) (other .beneficiaryDate) h in
+    unfold isRecent isAfter select in rw (le-ltb (other .beneficiaryDate) (row .beneficiaryDate) (omega arith)))
+
+last-recent : (n day : ℕ) (rows : List Row) → rising beneficiary rows ≡ true
+    → lastOf n (select (λ row. leb (row .beneficiaryDate) day) rows) ≡ select (isRecent n day rows) rows
+unfolding select rising
+last-recent n day [] e = last-none n
+last-recent n day (row ∷ rows) e =
+    let later = and-left (all (λ other. ltb (row .beneficiaryDate) (other .beneficiaryDate)) rows) (rising beneficiary rows) e in
+    let rest = and-right (all (λ other. ltb (row .beneficiaryDate) (other .beneficiaryDate)) rows) (rising beneficiary rows) e in
+    let held = select (λ row. leb (row .beneficiaryDate) day) rows in
+    let tail : select (isRecent n day (row ∷ rows)) rows ≡ lastOf n held
+    = front-agrees n day row rows rows later ∙ sym (last-recent n day rows rest) in
+    let head : isRecent n day (row ∷ rows) row ≡ (leb (row .beneficiaryDate) day && ltb (length held) n) =
+    unfold isRecent in ap (λ (l : List Row). leb (row .beneficiaryDate) day && ltb (length l) n) (later-behind day row rows later) in
+    go (leb (row .beneficiaryDate) day) held ∙ sym (rw (head, tail))
+  where
+    go : (b : Bool) (held : List Row)
+        → lastOf n (cond b (row ∷ held) held) ≡ cond (b && ltb (length held) n) (row ∷ lastOf n held) (lastOf n held)
+    go true held = last-front n row held
+    go false held = refl
+
+-- the eligible rows are those of the table that are eligible, in its order
+pub eligible-is : (n contract day : ℕ) (rows : List Row) → rising beneficiary rows ≡ true
+    → eligibleIn n contract day rows ≡ select (isEligible n contract day rows) rows
+unfolding eligibleIn isEligible
+eligible-is n contract day rows e = rw (last-recent n day rows e) (select-both _ _ rows)
+
+-- they rise too: no Beneficiary Date is claimed twice
+pub rising-eligible : (n contract day : ℕ) (rows : List Row) → rising beneficiary rows ≡ true
+    → rising beneficiary (eligibleIn n contract day rows) ≡ true
+rising-eligible n contract day rows e = rw (eligible-is n contract day rows e) (rising-select beneficiary _ rows e)
+
+-- ---- what a transfer claims
+
+pub rows-of-dues : (claimType : ℕ) (rows : List Row) → map (λ d. d .row) (map (due claimType) rows) ≡ rows
+rows-of-dues claimType [] = refl
+rows-of-dues claimType (row ∷ rows) = ap (_∷_ row) (rows-of-dues claimType rows)
+
+pub rising-dues : (tables : List ℕ) (day : ℕ) (m : List ℕ) → rising beneficiary (filledRows tables (transferOf m .security)) ≡ true
+    → rising beneficiary (map (λ d. d .row) (dues tables day m)) ≡ true
+unfolding dues eligible
+rising-dues tables day m e = go (fails m)
+  where
+    go : (b : Bool) → rising beneficiary (map (λ (d : Due). d .row) (cond b (map (due failType) (eligible tables day m)) [])) ≡ true
+    go true = rw (rows-of-dues failType (eligible tables day m)) (rising-eligible _ _ day (filledRows tables (transferOf m .security)) e)
+    go false = unfold rising in refl

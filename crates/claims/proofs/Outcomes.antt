@@ -1,0 +1,131 @@
+-- The amount rule in other words; outcome, release and slot by their cases; each field of a claim.
+use mathlib.Core.Path.{_≡_, refl}
+use mathlib.Core.Logic.{_≢_}
+use mathlib.Core.Bool.{true, false, cond, _&&_}
+use mathlib.Core.List.{List}
+use Prim.Native.Nat.{ℕ, zero, suc, _+_, _*_, _≤_, _<_}
+use native.Mathlib.Omega.{arith}
+use lib.Dec.{eqb}
+use borrow.Author.Tests.{eq-eqb, ne-eqb, le-leb, lt-leb}
+use Rattle.days.specs.Days.{bitOn, openAfter, openFrom}
+use Rattle.records.specs.declared.Claim.{Claim}
+use Rattle.securities.specs.Securities.{securityOf, typeOf, Row}
+use Rattle.claims.specs.Amounts.{ofInterest, ofPrincipal, centsOn, amount, outcomeOf, isLate, releaseOf, isEarly, slotOf, Parties, claimOn}
+
+-- ---- the amount rule
+
+-- the cents are the nearest to the exact amount, half a cent going up
+pub cents-nearest : (par factor : ℕ) → (10000000 * centsOn par factor ≤ par * factor + 5000000) × (par * factor + 5000000 < 10000000 * centsOn par factor + 10000000)
+unfolding centsOn
+cents-nearest par factor = omega arith
+
+-- ---- the outcome
+
+module _ (payer : ℕ) (row : Row) (interest principal : ℕ) where
+  pub outcome-zero : (claimType : ℕ) → interest ≡ 0 → principal ≡ 0 → outcomeOf claimType payer row interest principal ≡ 1
+  unfolding outcomeOf
+  outcome-zero claimType i p = rw (eq-eqb interest 0 i, eq-eqb principal 0 p)
+
+  some : 0 < interest + principal → (eqb interest 0 && eqb principal 0) ≡ false
+  some h = go interest principal h
+    where
+      go : (i p : ℕ) → 0 < i + p → (eqb i 0 && eqb p 0) ≡ false
+      go zero zero k = absurd (omega arith)
+      go zero (suc p) k = ne-eqb (suc p) 0 (omega arith)
+      go (suc i) p k = rw (ne-eqb (suc i) 0 (omega arith))
+
+  pub lending-final : 0 < interest + principal → row .final ≡ 1 → outcomeOf 3 payer row interest principal ≡ 2
+  unfolding outcomeOf
+  lending-final h f = rw (some h, eq-eqb (row .final) 1 f)
+
+  -- a fail claim, and a lending claim on a row that is not final
+  pub fail-masked : 0 < interest + principal → bitOn (row .mask) payer ≡ true → outcomeOf 1 payer row interest principal ≡ 3
+  unfolding outcomeOf
+  fail-masked h m = rw (some h, m)
+
+  pub lending-masked : 0 < interest + principal → row .final ≢ 1 → bitOn (row .mask) payer ≡ true → outcomeOf 3 payer row interest principal ≡ 3
+  unfolding outcomeOf
+  lending-masked h f m = rw (some h, ne-eqb (row .final) 1 f, m)
+
+  pub fail-settles : 0 < interest + principal → bitOn (row .mask) payer ≡ false → outcomeOf 1 payer row interest principal ≡ 0
+  unfolding outcomeOf
+  fail-settles h m = rw (some h, m)
+
+  pub lending-settles : 0 < interest + principal → row .final ≢ 1 → bitOn (row .mask) payer ≡ false → outcomeOf 3 payer row interest principal ≡ 0
+  unfolding outcomeOf
+  lending-settles h f m = rw (some h, ne-eqb (row .final) 1 f, m)
+
+-- ---- release and slot
+
+module _ (calendar : List ℕ) (day type : ℕ) (row : Row) where
+  pub notice-release : (claimType outcome : ℕ) → outcome ≢ 0 → releaseOf calendar claimType day row outcome ≡ 0
+  unfolding releaseOf
+  notice-release claimType outcome h = rw (ne-eqb outcome 0 h)
+
+  pub notice-slot : (claimType outcome : ℕ) → outcome ≢ 0 → slotOf type claimType day row outcome ≡ 0
+  unfolding slotOf
+  notice-slot claimType outcome h = rw (ne-eqb outcome 0 h)
+
+  -- a fail claim whose Payment Date has come
+  pub late-release : row .paymentDate ≤ day → releaseOf calendar 1 day row 0 ≡ openAfter calendar day
+  unfolding releaseOf isLate
+  late-release h = rw (le-leb (row .paymentDate) day h)
+
+  pub late-slot : row .paymentDate ≤ day → slotOf type 1 day row 0 ≡ 2
+  unfolding slotOf isLate
+  late-slot h = rw (le-leb (row .paymentDate) day h)
+
+  -- a fail claim whose Payment Date is to come, and every lending claim
+  pub timely-release : day < row .paymentDate → releaseOf calendar 1 day row 0 ≡ openFrom calendar (row .paymentDate)
+  unfolding releaseOf isLate
+  timely-release h = rw (lt-leb (row .paymentDate) day h)
+
+  pub lending-release : releaseOf calendar 3 day row 0 ≡ openFrom calendar (row .paymentDate)
+  unfolding releaseOf isLate
+  lending-release = refl
+
+  pub timely-slot : day < row .paymentDate → slotOf type 1 day row 0 ≡ cond (isEarly type) 1 3
+  unfolding slotOf isLate
+  timely-slot h = rw (lt-leb (row .paymentDate) day h)
+
+  pub lending-slot : slotOf type 3 day row 0 ≡ cond (isEarly type) 1 3
+  unfolding slotOf isLate
+  lending-slot = refl
+
+-- types 1 and 4 alone are early
+pub early-types : (isEarly 1 ≡ true) × (isEarly 4 ≡ true) × (isEarly 2 ≡ false) × (isEarly 3 ≡ false)
+unfolding isEarly
+early-types = (refl, refl, refl, refl)
+
+-- ---- the fields of a claim
+
+pub record Says (c : Claim) (calendar tables : List ℕ) (day number : ℕ) (x : Parties) (par claimType : ℕ) (row : Row) : Type 0 where
+  pub claim-type : c .«claim_type» ≡ claimType
+  pub outcome : c .outcome ≡ outcomeOf claimType (x .payer) row (centsOn par (row .interestFactor)) (centsOn par (row .principalFactor))
+  pub payer : c .payer ≡ x .payer
+  pub payee : c .payee ≡ x .payee
+  pub security : c .security ≡ x .security
+  pub row-number : c .row ≡ row .index
+  pub transfer-number : c .transfer ≡ number
+  pub interest : c .interest .0 ≡ centsOn par (row .interestFactor)
+  pub principal : c .principal .0 ≡ centsOn par (row .principalFactor)
+  pub release : c .release ≡ releaseOf calendar claimType day row (c .outcome)
+  pub slot : c .slot ≡ slotOf (typeOf (securityOf tables (x .security))) claimType day row (c .outcome)
+
+pub claim-says : (calendar tables : List ℕ) (day number : ℕ) (x : Parties) (par claimType : ℕ) (row : Row)
+    → Says (claimOn calendar tables day number x par claimType row) calendar tables day number x par claimType row
+unfolding claimOn amount
+claim-says calendar tables day number x par claimType row =
+    record {
+      claim-type = refl;
+      outcome = refl;
+      payer = refl;
+      payee = refl;
+      security = refl;
+      row-number = refl;
+      transfer-number = refl;
+      interest = refl;
+      principal = refl;
+      release = refl;
+      slot = refl;
+    }

@@ -1,0 +1,68 @@
+-- Document 01, section Fail claims: the rows that a transfer claims. S is the book's day, C the Contract Date.
+use mathlib.Core.Bool.{Bool, cond, _&&_}
+use mathlib.Core.List.{List, [], _∷_, map}
+use Prim.Native.Nat.{ℕ}
+use lib.Dec.{eqb, ltb, leb}
+use lib.ListN.{getD}
+use Rattle.lists.specs.Select.{select, lastOf}
+use Rattle.records.specs.declared.Claim.{Claim}
+use Rattle.records.specs.declared.Transfer.{Transfer}
+use Rattle.records.specs.MessageRecords.{transferOf, firstLine, secondLine}
+use Rattle.securities.specs.Securities.{securityOf, typeOf, frequencyOf, Row, filledRows}
+use Rattle.tags.specs.declared.Tag.{Tag}
+use Rattle.tags.specs.ContractDateTag.{tagOf, tagged, contractDate}
+use Rattle.claims.specs.Amounts.{failType, Parties, claimOn}
+
+-- The tag of a transfer message: that of its two free text lines.
+unfoldable pub messageTag : List ℕ → Tag
+messageTag m = tagOf (firstLine m) (secondLine m)
+
+-- ---- eligible rows
+
+-- The published maximum numbers of Beneficiary Dates: MBS, then monthly, quarterly, semiannual, annual.
+unfoldable pub maximumNumbers : List ℕ
+maximumNumbers = 7 ∷ 6 ∷ 3 ∷ 2 ∷ 1 ∷ []
+
+-- The maximum number for a type and a frequency: types 3 and 4 are MBS.
+unfoldable pub maximumFor : List ℕ → ℕ → ℕ → ℕ
+maximumFor numbers type frequency = cond (leb 3 type) (getD numbers 0 0) (getD numbers frequency 0)
+
+-- Of the rows with Beneficiary Date on or before the day, the most recent up to a maximum number; of these, each with a Beneficiary
+-- Date after the Contract Date, in table order.
+unfoldable pub eligibleIn : ℕ → ℕ → ℕ → List Row → List Row
+eligibleIn maximum contract day rows =
+    select (λ row. ltb contract (row .beneficiaryDate)) (lastOf maximum (select (λ row. leb (row .beneficiaryDate) day) rows))
+
+-- The eligible rows of a transfer's security.
+unfoldable pub eligible : List ℕ → ℕ → List ℕ → List Row
+eligible tables day m =
+    let s = transferOf m .security in
+    let words = securityOf tables s in
+    eligibleIn (maximumFor maximumNumbers (typeOf words) (frequencyOf words)) (contractDate (messageTag m)) day (filledRows tables s)
+
+-- ---- the claims of a transfer
+
+-- A row that is claimed, and the type of the claim.
+pub record Due : Type 0 where
+  pub claimType : ℕ
+  pub row : Row
+
+abbrev pub due : ℕ → Row → Due
+due claimType row = record { claimType = claimType; row = row }
+
+-- A failed transfer: only tracking code 0 with a tag.
+unfoldable pub fails : List ℕ → Bool
+fails m = eqb (transferOf m .code) 0 && tagged (messageTag m)
+
+-- What a transfer claims, in table order.
+unfoldable pub dues : List ℕ → ℕ → List ℕ → List Due
+dues tables day m = cond (fails m) (map (due failType) (eligible tables day m)) []
+
+-- Payer is the sender, payee the receiver.
+unfoldable pub transferParties : Transfer → Parties
+transferParties t = record { security = t .security; payee = t .receiver; payer = t .sender }
+
+-- The claims of the transfer with a number, on its own par.
+unfoldable pub transferClaims : List ℕ → List ℕ → ℕ → ℕ → List ℕ → List Claim
+transferClaims calendar tables day number m =
+    map (λ d. claimOn calendar tables day number (transferParties (transferOf m)) (transferOf m .par) (d .claimType) (d .row)) (dues tables day m)

@@ -1,0 +1,4 @@
+pub mod Amounts
+pub mod Fails
+pub mod Close
+pub mod Written

@@ -1,0 +1,129 @@
+-- The stored balances stay the layout of the ledger's par: what is posted to a word is what the ledger adds up.
+use mathlib.Core.Path.{_≡_, refl, sym, ap, ap₂, _∙_, fun-ext}
+use mathlib.Core.Logic.{_⊎_, inl, inr}
+use mathlib.Core.Bool.{Bool, true, false, cond, _&&_, _||_, true≢false}
+use Prim.Native.Nat.{ℕ, _+_, _-_, _≤_, _<_}
+use native.Mathlib.Nat.{zero-add}
+use native.Mathlib.Omega.{arith}
+use lib.Dec.{eqb}
+use borrow.Author.Tests.{ltb-false, eqb-true}
+use Rattle.lists.specs.Tests.{and-right}
+use Rattle.records.specs.declared.Transfer.{Transfer}
+use Rattle.book.specs.Book.{Position, InRange, same, balanceAt, layout}
+use Rattle.book.specs.Loans.{Change, unchanged, increase, decrease, increasing, decreasing, bySender, byReceiver, changeOf, changed, aboveBalance}
+use Rattle.book.proofs.Words.{three, read, layout-write, same-refl, sameness}
+use Rattle.history.specs.Ledger.{isIncrease, isDecrease}
+use Rattle.history.proofs.Accepted.{Fields, Within}
+
+-- ---- what a change adds to a position, and what it takes from it
+
+added : Change → ℕ → Position → ℕ
+added unchanged v p = 0
+added (increase q) v p = cond (same q p) v 0
+added (decrease q) v p = 0
+
+removed : Change → ℕ → Position → ℕ
+removed unchanged v p = 0
+removed (increase q) v p = 0
+removed (decrease q) v p = cond (same q p) v 0
+
+-- the codes that increase and that decrease
+increasing-codes : (c : ℕ) → increasing c ≡ (eqb c 1 || eqb c 4 || eqb c 5)
+unfolding increasing
+increasing-codes c = refl
+
+decreasing-codes : (c : ℕ) → decreasing c ≡ (eqb c 2 || eqb c 3 || eqb c 6)
+unfolding decreasing
+decreasing-codes c = refl
+
+-- no code does both
+one-way : (c : ℕ) → increasing c ≡ true → decreasing c ≡ false
+one-way c e = decreasing-codes c ∙ go (eqb c 1) (eqb c 4) (eqb c 5) refl refl refl (sym (increasing-codes c) ∙ e)
+  where
+    go : (x y z : Bool) → eqb c 1 ≡ x → eqb c 4 ≡ y → eqb c 5 ≡ z → (x || y || z) ≡ true → (eqb c 2 || eqb c 3 || eqb c 6) ≡ false
+    go true y z i j k h = rw (eqb-true c 1 i)
+    go false true z i j k h = rw (eqb-true c 4 j)
+    go false false true i j k h = rw (eqb-true c 5 k)
+    go false false false i j k h = absurd (true≢false (sym h))
+
+-- an increase changes the sender's loan to the receiver, a decrease the receiver's to the sender
+increase-test : (t : Transfer) (p : Position) → isIncrease t p ≡ (increasing (t .code) && same (bySender t) p)
+unfolding isIncrease increasing same bySender
+increase-test t p = refl
+
+decrease-test : (t : Transfer) (p : Position) → isDecrease t p ≡ (decreasing (t .code) && same (byReceiver t) p)
+unfolding isDecrease decreasing same byReceiver
+decrease-test t p = refl
+
+-- an increased position has the fields of the transfer
+pub increase-range : (t : Transfer) (p : Position) → isIncrease t p ≡ true → Fields t → InRange p
+unfolding isIncrease
+increase-range t p e f =
+    let k = three (t .security) (p .security) (t .sender) (p .lender) (t .receiver) (p .borrower)
+    (and-right (eqb (t .code) 1 || eqb (t .code) 4 || eqb (t .code) 5) _ e) in
+    let s = k .first in
+    let l = k .second in
+    let r = k .third in
+    record { security = omega (arith, f .security); lender = omega (arith, f .sender); borrower = omega (arith, f .receiver) }
+
+-- the change of a transfer adds and takes what the ledger counts
+is-added : (t : Transfer) (p : Position) → added (changeOf t) (t .par) p ≡ cond (isIncrease t p) (t .par) 0
+unfolding changeOf added
+is-added t p = rw (increase-test t p) (go (increasing (t .code)) (decreasing (t .code)))
+  where
+    go : (x y : Bool)
+        → added (cond x (increase (bySender t)) (cond y (decrease (byReceiver t)) unchanged)) (t .par) p
+        ≡ cond (x && same (bySender t) p) (t .par) 0
+    go true y = refl
+    go false true = refl
+    go false false = refl
+
+is-removed : (t : Transfer) (p : Position) → removed (changeOf t) (t .par) p ≡ cond (isDecrease t p) (t .par) 0
+unfolding changeOf removed
+is-removed t p = rw (decrease-test t p) (go (increasing (t .code)) (decreasing (t .code)) (one-way (t .code)))
+  where
+    go : (x y : Bool) → (x ≡ true → y ≡ false)
+        → removed (cond x (increase (bySender t)) (cond y (decrease (byReceiver t)) unchanged)) (t .par) p
+        ≡ cond (y && same (byReceiver t) p) (t .par) 0
+    go true true h = absurd (true≢false (h refl))
+    go true false h = refl
+    go false true h = refl
+    go false false h = refl
+
+-- ---- a position's increases and decreases
+
+module _ (plus minus : Position → ℕ) (covered : (p : Position) → minus p ≤ plus p) where
+  abbrev pub net : Position → ℕ
+  net p = plus p - minus p
+
+  covered-after : (c : Change) (v : ℕ) → Within c → aboveBalance (layout net) c v ≡ false
+      → (p : Position) → removed c v p + minus p ≤ added c v p + plus p
+  unfolding removed added aboveBalance
+  covered-after unchanged v r e p = omega (arith, covered p)
+  covered-after (increase q) v r e p = omega (arith, covered p)
+  covered-after (decrease q) v r e p = go (sameness q p)
+    where
+      go : (q ≡ p) ⊎ (same q p ≡ false) → cond (same q p) v 0 + minus p ≤ 0 + plus p
+      go (inl k) = rw (← k, same-refl q) (omega (arith, ltb-false (balanceAt (layout net) q) v e, read net q r, covered q))
+      go (inr d) = rw d (omega (arith, covered p))
+
+  balances-after : (c : Change) (v : ℕ) → Within c → aboveBalance (layout net) c v ≡ false
+      → changed (layout net) c v ≡ layout (λ p. (added c v p + plus p) - (removed c v p + minus p))
+  unfolding removed added aboveBalance changed
+  balances-after unchanged v r e = simp zero-add
+  balances-after (increase q) v r e =
+      layout-write net _ q _ r (rw (same-refl q) (omega (arith, read net q r, covered q))) (λ p d. rw d (simp zero-add))
+  balances-after (decrease q) v r e =
+      layout-write net _ q _ r (rw (same-refl q) (omega (arith, read net q r, covered q))) (λ p d. rw d (simp zero-add))
+
+  -- the same, said of the transfer
+  pub covered-transfer : (t : Transfer) → Within (changeOf t) → aboveBalance (layout net) (changeOf t) (t .par) ≡ false
+      → (p : Position) → cond (isDecrease t p) (t .par) 0 + minus p ≤ cond (isIncrease t p) (t .par) 0 + plus p
+  covered-transfer t r e p = rw (← is-removed t p, ← is-added t p) (covered-after (changeOf t) (t .par) r e p)
+
+  pub balances-transfer : (t : Transfer) → Within (changeOf t) → aboveBalance (layout net) (changeOf t) (t .par) ≡ false
+      → changed (layout net) (changeOf t) (t .par)
+      ≡ layout (λ p. (cond (isIncrease t p) (t .par) 0 + plus p) - (cond (isDecrease t p) (t .par) 0 + minus p))
+  balances-transfer t r e =
+      balances-after (changeOf t) (t .par) r e
+      ∙ ap layout (fun-ext (λ p. ap₂ (λ (a b : ℕ). (a + plus p) - (b + minus p)) (is-added t p) (is-removed t p)))

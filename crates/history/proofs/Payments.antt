@@ -1,0 +1,211 @@
+-- The claims of a call pay what the call adds to what the history owes. A transfer's claims are a sum over its eligible rows; of a
+-- close's claims only those of one security, lender and borrower count between two parties.
+use mathlib.Core.Path.{_≡_, refl, sym, ap, ap₂, _∙_, subst}
+use mathlib.Core.Logic.{_≢_}
+use mathlib.Core.Bool.{Bool, true, false, cond, _&&_}
+use mathlib.Core.List.{List, [], _∷_, _++_, map}
+use Prim.Native.Nat.{ℕ, zero, suc, _+_, _*_, _<_}
+use native.Mathlib.Nat.{zero-add, add-zero, zero-mul}
+use native.Mathlib.Omega.{arith}
+use native.Mathlib.Decide.{decLt}
+use lib.Dec.{ltb, eqb}
+use lib.ListN.{getD}
+use borrow.Author.Tests.{ltb-false}
+use Rattle.lists.specs.Sums.{sum, sum-one, sum-map, sum-equal, sum-zero, sum-cond, cond-zero}
+use Rattle.lists.specs.Tabulate.{each, eachOf, sum-eachOf, sum-each-none, sum-each-one}
+use Rattle.records.specs.declared.Claim.{Claim}
+use Rattle.records.specs.declared.ReadClaim.{ReadClaim}
+use Rattle.records.specs.declared.ReadClaim.the-variants.{Is}
+use Rattle.records.specs.MessageRecords.{transferOf}
+use Rattle.securities.specs.Securities.{Row}
+use Rattle.claims.specs.Amounts.{Part, ofInterest, ofPrincipal, centsOn, amount, failType, lendingType, Parties, claimOn}
+use Rattle.claims.specs.Fails.{eligible, Due, due, fails, dues, transferParties, transferClaims}
+use Rattle.claims.specs.Close.{crossed, loanParties, loanClaim, securityBalances, lenderBalances, rowClaims, closeClaims}
+use Rattle.claims.proofs.Crossed.{balance-word}
+use Rattle.book.specs.Book.{Position, InRange, word, balanceAt}
+use Rattle.book.proofs.Words.{three, three-refl}
+use Rattle.history.specs.Owed.{amounts, isFailed}
+use Rattle.history.specs.Statement.{centsIn, counts, paidIn, paid}
+
+-- ---- parties
+
+-- parties that are accounts and a security of the book
+pub record AreAccounts (x : Parties) : Type 0 where
+  pub security : x .security < 16
+  pub payee : x .payee < 16
+  pub payer : x .payer < 16
+
+pub accounts : (x : Parties) → Dec (AreAccounts x)
+accounts x = go (decLt (x .security) 16) (decLt (x .payee) 16) (decLt (x .payer) 16)
+  where
+    go : Dec (x .security < 16) → Dec (x .payee < 16) → Dec (x .payer < 16) → Dec (AreAccounts x)
+    go (yes a) (yes b) (yes c) = yes (record { security = a; payee = b; payer = c })
+    go (yes a) (yes b) (no d) = no (λ k. d (k .payer))
+    go (yes a) (no d) c = no (λ k. d (k .payee))
+    go (no d) b c = no (λ k. d (k .security))
+
+-- the test of two parties
+between : Parties → Parties → Bool
+between x y = eqb (x .security) (y .security) && eqb (x .payee) (y .payee) && eqb (x .payer) (y .payer)
+
+between-refl : (x : Parties) → between x x ≡ true
+unfolding between
+between-refl x = three-refl (x .security) (x .payee) (x .payer)
+
+apart : (x y : Parties) → x ≢ y → between x y ≡ false
+unfolding between
+apart x y d = go (between x y) refl
+  where
+    go : (b : Bool) → between x y ≡ b → between x y ≡ false
+    go true e =
+        let t = three (x .security) (y .security) (x .payee) (y .payee) (x .payer) (y .payer) e in
+        absurd (d (λ i. record { security = t .first i; payee = t .second i; payer = t .third i }))
+    go false e = e
+
+-- what the payee has lent the payer
+unfoldable pub loan : Parties → Position
+loan x = record { security = x .security; lender = x .payee; borrower = x .payer }
+
+-- ---- what claims pay
+
+cond-and : (a b : Bool) (n : ℕ) → cond (a && b) n 0 ≡ cond a (cond b n 0) 0
+cond-and true b n = refl
+cond-and false b n = refl
+
+-- nothing is due on no par
+amount-zero : (part : Part) (row : Row) → amount part 0 row ≡ 0
+unfolding amount centsOn
+amount-zero ofInterest row = rw (zero-mul (row .interestFactor))
+amount-zero ofPrincipal row = rw (zero-mul (row .principalFactor))
+
+pub amounts-zero : (part : Part) (rowTest : ℕ → Bool) (rows : List Row) → amounts part rowTest 0 rows ≡ 0
+unfolding amounts
+amounts-zero part rowTest rows = sum-zero _ rows (λ row. rw (amount-zero part row) (cond-zero (rowTest (row .index))))
+
+-- the claims of a transfer are a failed transfer's, from its sender to its receiver
+failed-test : (m : List ℕ) (x : Parties) → isFailed m x ≡ (fails m && between (transferParties (transferOf m)) x)
+unfolding isFailed fails between transferParties
+failed-test m x = refl
+
+module _ (calendar tables : List ℕ) (part : Part) (rowTest : ℕ → Bool) (x : Parties) where
+  abbrev pays-by : Claim → ℕ
+  pays-by c = cond (counts rowTest x c) (centsIn part c) 0
+
+  -- the cents that claims have the payer pay the payee
+  abbrev pub pays : List Claim → ℕ
+  pays cs = sum pays-by cs
+
+  pub paid-claims : (cs : List Claim) → paid part rowTest (map Is cs) x ≡ pays cs
+  unfolding paid paidIn
+  paid-claims cs = sum-map (paidIn part rowTest x) Is cs
+
+  pays-none : pays [] ≡ 0
+  unfolding sum
+  pays-none = refl
+
+  -- what a row adds
+  abbrev due-on : ℕ → Row → ℕ
+  due-on par row = cond (rowTest (row .index)) (amount part par row) 0
+
+  -- a claim counts between its parties
+  pays-one : (day n : ℕ) (y : Parties) (par claimType : ℕ) (row : Row)
+      → pays-by (claimOn calendar tables day n y par claimType row) ≡ cond (between y x) (due-on par row) 0
+  unfolding counts claimOn centsIn between
+  pays-one day n y par claimType row = go part
+    where
+      go : (q : Part) → cond (counts rowTest x (claimOn calendar tables day n y par claimType row)) (centsIn q (claimOn calendar tables day n y par claimType row)) 0
+          ≡ cond (between y x) (cond (rowTest (row .index)) (amount q par row) 0) 0
+      go ofInterest = cond-and (between y x) (rowTest (row .index)) _
+      go ofPrincipal = cond-and (between y x) (rowTest (row .index)) _
+
+  -- ---- a transfer
+
+  pays-dues : (day n : ℕ) (y : Parties) (par claimType : ℕ) (rows : List Row)
+      → pays (map (λ (d : Due). claimOn calendar tables day n y par (d .claimType) (d .row)) (map (due claimType) rows))
+      ≡ cond (between y x) (amounts part rowTest par rows) 0
+  unfolding amounts
+  pays-dues day n y par claimType rows =
+      sum-map _ _ (map (due claimType) rows) ∙ sum-map _ (due claimType) rows
+      ∙ sum-equal _ _ rows (λ row. pays-one day n y par claimType row)
+      ∙ sum-cond (between y x) (due-on par) rows
+
+  -- a failed transfer pays from its sender to its receiver, any other pays nothing
+  pub pays-transfer : (day n : ℕ) (m : List ℕ)
+      → pays (transferClaims calendar tables day n m) ≡ cond (isFailed m x) (amounts part rowTest (transferOf m .par) (eligible tables day m)) 0
+  unfolding transferClaims dues
+  pays-transfer day n m = rw (failed-test m x) (go (fails m))
+    where
+      go : (b : Bool)
+          → pays (map (λ (d : Due). claimOn calendar tables day n (transferParties (transferOf m)) (transferOf m .par) (d .claimType) (d .row))
+          (cond b (map (due failType) (eligible tables day m)) []))
+          ≡ cond (b && between (transferParties (transferOf m)) x) (amounts part rowTest (transferOf m .par) (eligible tables day m)) 0
+      go true = pays-dues day n (transferParties (transferOf m)) (transferOf m .par) failType (eligible tables day m)
+      go false = pays-none
+
+  -- ---- a close
+
+  pays-loan : (day : ℕ) (row : Row) (y : Parties) (par : ℕ) → pays (loanClaim calendar tables day row y par) ≡ cond (between y x) (due-on par row) 0
+  unfolding loanClaim
+  pays-loan day row y par = go (ltb 0 par) refl
+    where
+      go : (b : Bool) → ltb 0 par ≡ b → pays (cond b (claimOn calendar tables day 0 y par lendingType row ∷ []) []) ≡ cond (between y x) (due-on par row) 0
+      go true e = sum-one pays-by _ ∙ pays-one day 0 y par lendingType row
+      go false e =
+          let z : par ≡ 0 = omega (arith, ltb-false 0 par e) in
+          pays-none
+          ∙ sym (ap (λ (v : ℕ). cond (between y x) (due-on v row) 0) z
+          ∙ rw (amount-zero part row, cond-zero (rowTest (row .index))) (cond-zero (between y x)))
+
+  pays-other : (day : ℕ) (row : Row) (y : Parties) (par : ℕ) → y ≢ x → pays (loanClaim calendar tables day row y par) ≡ 0
+  pays-other day row y par d = pays-loan day row y par ∙ rw (apart y x d)
+
+  module _ (day : ℕ) (balances : List ℕ) where
+    abbrev held : ℕ → ℕ → ℕ → ℕ
+    held s l b = getD (lenderBalances (securityBalances balances s) l) b 0
+
+    abbrev turn : Row → ℕ → ℕ → ℕ → List Claim
+    turn row s l b = loanClaim calendar tables day row (loanParties s l b) (held s l b)
+
+    -- a row of the parties' own security
+    pays-crossing : AreAccounts x → (row : Row)
+        → pays (rowClaims calendar tables day (x .security) (securityBalances balances (x .security)) row) ≡ due-on (balanceAt balances (loan x)) row
+    unfolding rowClaims loanParties
+    pays-crossing r row =
+        sum-each-one pays-by 16 (λ l. each 16 (λ b. turn row (x .security) l b)) (x .payee) (r .payee)
+        (λ l d. sum-each-none pays-by 16 (turn row (x .security) l) (λ b k. pays-other day row _ _ (λ e. d (ap (λ (y : Parties). y .payee) e))))
+        ∙ sum-each-one pays-by 16 (turn row (x .security) (x .payee)) (x .payer) (r .payer)
+        (λ b d. pays-other day row _ _ (λ e. d (ap (λ (y : Parties). y .payer) e)))
+        ∙ pays-loan day row (loanParties (x .security) (x .payee) (x .payer)) (held (x .security) (x .payee) (x .payer))
+        ∙ rw (between-refl x) (ap (λ (v : ℕ). due-on v row) word-of)
+      where
+        word-of : getD (lenderBalances (securityBalances balances (x .security)) (x .payee)) (x .payer) 0 ≡ balanceAt balances (loan x)
+        word-of = balance-word balances (x .security) (x .payee) (x .payer) (r .payee) (r .payer) ∙ (unfold balanceAt loan word in refl)
+
+    -- a row of another security
+    not-crossing : (s : ℕ) → s ≢ x .security → (row : Row) → pays (rowClaims calendar tables day s (securityBalances balances s) row) ≡ 0
+    unfolding rowClaims loanParties
+    not-crossing s d row =
+        sum-each-none pays-by 16 (λ l. each 16 (λ b. turn row s l b))
+        (λ l k. sum-each-none pays-by 16 (turn row s l) (λ b m. pays-other day row _ _ (λ e. d (ap (λ (y : Parties). y .security) e))))
+
+    abbrev rows-of : ℕ → List Row
+    rows-of s = crossed calendar tables day s
+
+    pub pays-close : AreAccounts x
+        → pays (closeClaims calendar tables day balances) ≡ amounts part rowTest (balanceAt balances (loan x)) (crossed calendar tables day (x .security))
+    unfolding closeClaims amounts
+    pays-close r =
+        sum-each-one pays-by 16 (λ s. eachOf (rows-of s) (rowClaims calendar tables day s (securityBalances balances s))) (x .security) (r .security)
+        (λ s d. sum-eachOf pays-by _ (λ row. 0) (rows-of s) (not-crossing s d) ∙ sum-zero (λ row. 0) (rows-of s) (λ row. refl))
+        ∙ sum-eachOf pays-by _ _ (rows-of (x .security)) (pays-crossing r)
+
+    -- who is no account of the book gets and pays nothing
+    pub pays-outside : ¬ AreAccounts x → pays (closeClaims calendar tables day balances) ≡ 0
+    unfolding closeClaims rowClaims loanParties
+    pays-outside d =
+        sum-each-none pays-by 16 (λ s. eachOf (rows-of s) (rowClaims calendar tables day s (securityBalances balances s)))
+        (λ s a. sum-eachOf pays-by _ (λ row. 0) (rows-of s)
+        (λ row. sum-each-none pays-by 16 (λ l. each 16 (λ b. turn row s l b))
+        (λ l b. sum-each-none pays-by 16 (turn row s l)
+        (λ j c. pays-other day row _ _ (λ e. d (subst (λ (y : Parties). AreAccounts y) e (record { security = a; payee = b; payer = c }))))))
+        ∙ sum-zero (λ row. 0) (rows-of s) (λ row. refl))

@@ -1,0 +1,186 @@
+-- Computed rows: the number of a call where two neighbouring causes apply, each by its own, and where none does, at full size.
+use mathlib.Core.Path.{_≡_, refl}
+use mathlib.Core.Bool.{Bool, true, false, _&&_}
+use mathlib.Core.List.{List, [], _∷_, _++_}
+use Prim.Native.Nat.{ℕ, _+_, _/_, _%_}
+use lib.Dec.{eqb}
+use lib.ListN.{length, replicate, set, take}
+use Rattle.book.specs.declared.Book.{Book}
+use Rattle.lists.specs.Tests.{below}
+use Rattle.lists.specs.All.{all}
+use Rattle.lists.specs.Numbers.{bytesOf, numberOf}
+use Rattle.lists.specs.Fields.{total, encode, decode}
+use Rattle.lists.specs.First.{firstOf}
+use Rattle.lists.specs.Sums.{sum}
+use Rattle.lists.specs.Select.{select, lastOf}
+use Rattle.lists.specs.Tabulate.{tabulate, each, eachOf}
+use Rattle.days.specs.Days.{leapDay, monthLength, isDate, wordOf, dateOf, lengthOf, bitOn, badFrom, badCalendar, isOpen, lowestFrom, seekFrom, openAt, openAfter, openFrom, highestBelow, lastBelow, lastOpen}
+use Rattle.days.specs.Weekdays.{isWeekday, weekdayWord, weekdaysFrom, weekdays}
+use Rattle.records.specs.MessageRecords.{transferKind, closeKind, claimKind, size, recordBytes, claimValues, transferOf, firstLine, secondLine, headed, reads}
+use Rattle.securities.specs.Securities.{securityOf, typeOf, frequencyOf, Row, rowOf, rowsFrom, rowsOf, isEmpty, isFilled, filledRows, goodRow, goodRows, goodSecurity, goodTables}
+use Rattle.securities.specs.Cases.{caseTables}
+use Rattle.tags.specs.ContractDateTag.{opener, same, tagged, openersFrom, openers, endIn, endFrom, isDigit, digitsAfter, digitsNumber, writesDate, tagHolding, tagAt, tagOf, contractDate, isSeveral, isUnended, isNotDate, editCauses}
+use Rattle.claims.specs.Amounts.{centsOn, amount, outcomeOf, isLate, releaseOf, isEarly, slotOf, claimOn}
+use Rattle.claims.specs.Fails.{messageTag, maximumNumbers, maximumFor, eligibleIn, eligible, fails, dues, transferParties, transferClaims}
+use Rattle.claims.specs.Close.{crosses, crossed, loanParties, loanClaim, securityBalances, lenderBalances, rowClaims, closeClaims}
+use Rattle.claims.specs.Written.{claimBytes, bytesOfAll, written}
+use Rattle.book.specs.Book.{word, position, balanceAt, layout}
+use Rattle.book.specs.Loans.{increasing, decreasing, bySender, byReceiver, changeOf, changed, aboveBalance, pastLimit}
+use Rattle.book.specs.Soundness.{wrongLength, badDay, goodBalance, goodBalancesFrom, badBalances, tableCauses, bookCauses, openingCauses}
+use Rattle.history.specs.Calls.{Call, transfer, close, bufferOf, claimsOf}
+use Rattle.history.specs.Causes.{recordCauses, outOfRange, fieldCauses, countCauses, loanCauses, lastDayCauses, roomCauses, callCauses, causes, numberFor, openingNumber}
+use Rattle.history.specs.Results.{openedFor, opened}
+
+-- ---- messages
+
+-- a Contract Date tag, {98A:CNTR/yyyymmdd}
+tag : ℕ → List ℕ
+tag c =
+    123 ∷ 57 ∷ 56 ∷ 65 ∷ 58 ∷ 67 ∷ 78 ∷ 84 ∷ 82 ∷ 47 ∷ (48 + c / 10000000) ∷ (48 + c / 1000000 % 10) ∷ (48 + c / 100000 % 10)
+    ∷ (48 + c / 10000 % 10) ∷ (48 + c / 1000 % 10) ∷ (48 + c / 100 % 10) ∷ (48 + c / 10 % 10) ∷ (48 + c % 10) ∷ 125 ∷ []
+
+-- text filled with spaces to a line of 64 bytes
+line : List ℕ → List ℕ
+line text = take 64 (text ++ replicate 64 32)
+
+tagLine : ℕ → List ℕ
+tagLine c = line (tag c)
+
+blank : List ℕ
+blank = line []
+
+-- two tags; a tag without its }; a tag that is no date
+twoTags : List ℕ
+twoTags = line (tag 20230315 ++ tag 20230315)
+
+openTag : List ℕ
+openTag = line (take 18 (tag 20230315))
+
+badTag : List ℕ
+badTag = line (tag 20230230)
+
+-- a transfer by its kind, sender, receiver, security, class, code, par, first line and the size of its claim buffer
+sent : ℕ → ℕ → ℕ → ℕ → ℕ → ℕ → ℕ → List ℕ → ℕ → Call
+sent kind sender receiver security class code par first room =
+    transfer (record {
+      message = (139 ∷ 0 ∷ kind ∷ 0 ∷ sender ∷ receiver ∷ security ∷ class ∷ code ∷ (par % 256) ∷ (par / 256 % 256) ∷ (par / 65536 % 256) ∷ (par / 16777216) ∷ [])
+          ++ (first ++ blank);
+      buffer = replicate room 0;
+    })
+
+closing : ℕ → ℕ → Call
+closing kind room = close (record { message = 2 ∷ 0 ∷ kind ∷ 0 ∷ []; buffer = replicate room 0 })
+
+-- ---- rows
+
+zeros : List ℕ
+zeros = replicate 4096 0
+
+-- account 1 has lent account 2 40,000 in security 0
+held : List ℕ
+held = set zeros 18 40000
+
+-- a Record Date on the last open day
+lateTables : List ℕ
+lateTables = (3 ∷ 1 ∷ 20391230 ∷ 20391230 ∷ 20391230 ∷ 5000000 ∷ []) ++ replicate 1818 0
+
+record CauseRow : Type 0 where
+  calendar : List ℕ
+  tables : List ℕ
+  book : Book
+  balances : List ℕ
+  call : Call
+  number : ℕ
+
+abbrev row : List ℕ → List ℕ → ℕ → ℕ → List ℕ → Call → ℕ → CauseRow
+row c t d n b k r = record { calendar = c; tables = t; book = record { day = d; count = n }; balances = b; call = k; number = r }
+
+rows : List CauseRow
+rows =
+    -- accepted
+    row weekdays caseTables 20230404 0 zeros (sent 1 1 2 0 0 0 200000 (tagLine 20230315) 35) 0
+    ∷  -- length before calendar
+    row (replicate 479 4294967295) caseTables 20230404 0 zeros (sent 1 1 2 0 0 0 200000 (tagLine 20230315) 35) 1
+    ∷  -- calendar before tables
+    row (set weekdays 1 4294967295) (set caseTables 0 9) 20230404 0 zeros (sent 1 1 2 0 0 0 200000 (tagLine 20230315) 35) 2
+    ∷  -- tables before day
+    row weekdays (set caseTables 0 9) 20230401 0 zeros (sent 1 1 2 0 0 0 200000 (tagLine 20230315) 35) 3
+    ∷  -- day before record
+    row weekdays caseTables 20230401 0 zeros (sent 2 1 2 0 0 0 200000 (tagLine 20230315) 35) 4
+    ∷  -- record before fields
+    row weekdays caseTables 20230404 0 zeros (sent 2 16 2 0 0 0 200000 (tagLine 20230315) 35) 5
+    ∷  -- fields before tag
+    row weekdays caseTables 20230404 0 zeros (sent 1 16 2 0 0 0 200000 twoTags 35) 6
+    ∷  -- receiver
+    row weekdays caseTables 20230404 0 zeros (sent 1 1 16 0 0 0 200000 (tagLine 20230315) 35) 6
+    ∷  -- security
+    row weekdays caseTables 20230404 0 zeros (sent 1 1 2 16 0 0 200000 (tagLine 20230315) 35) 6
+    ∷  -- unused security
+    row weekdays caseTables 20230404 0 zeros (sent 1 1 2 1 0 0 200000 (tagLine 20230315) 35) 6
+    ∷  -- class
+    row weekdays caseTables 20230404 0 zeros (sent 1 1 2 0 2 0 200000 (tagLine 20230315) 35) 6
+    ∷  -- code
+    row weekdays caseTables 20230404 0 zeros (sent 1 1 2 0 0 7 200000 (tagLine 20230315) 35) 6
+    ∷  -- no par
+    row weekdays caseTables 20230404 0 zeros (sent 1 1 2 0 0 0 0 (tagLine 20230315) 35) 6
+    ∷  -- par
+    row weekdays caseTables 20230404 0 zeros (sent 1 1 2 0 0 0 100000001 (tagLine 20230315) 35) 6
+    ∷  -- largest par
+    row weekdays caseTables 20230404 0 zeros (sent 1 1 2 0 0 0 100000000 (tagLine 20230315) 35) 0
+    ∷  -- sender is receiver
+    row weekdays caseTables 20230404 0 zeros (sent 1 1 1 0 0 0 200000 (tagLine 20230315) 35) 6
+    ∷  -- two openers
+    row weekdays caseTables 20230404 0 zeros (sent 1 1 2 0 0 0 200000 twoTags 35) 132
+    ∷  -- no end
+    row weekdays caseTables 20230404 0 zeros (sent 1 1 2 0 0 0 200000 openTag 35) 133
+    ∷  -- no date
+    row weekdays caseTables 20230404 0 zeros (sent 1 1 2 0 0 0 200000 badTag 35) 135
+    ∷  -- an edit with a loan code
+    row weekdays caseTables 20230404 0 zeros (sent 1 1 2 0 0 1 200000 (tagLine 20230405) 35) 138
+    ∷  -- after the day before class
+    row weekdays caseTables 20230404 0 zeros (sent 1 1 2 0 1 0 200000 (tagLine 20230405) 35) 138
+    ∷  -- class before count
+    row weekdays caseTables 20230404 4294967295 zeros (sent 1 1 2 0 1 0 200000 (tagLine 20230315) 35) 139
+    ∷  -- class 1 on the day
+    row weekdays caseTables 20230404 0 zeros (sent 1 1 2 0 1 0 200000 (tagLine 20230404) 35) 0
+    ∷  -- count before balance
+    row weekdays caseTables 20230404 4294967295 zeros (sent 1 1 2 0 0 3 200000 blank 35) 11
+    ∷  -- count before room
+    row weekdays caseTables 20230404 4294967295 zeros (sent 1 1 2 0 0 0 200000 (tagLine 20230315) 0) 11
+    ∷  -- above the balance
+    row weekdays caseTables 20230404 0 held (sent 1 2 1 0 0 3 40001 blank 35) 7
+    ∷  -- the whole balance
+    row weekdays caseTables 20230404 0 held (sent 1 2 1 0 0 3 40000 blank 35) 0
+    ∷  -- room for no claim
+    row weekdays caseTables 20230404 0 zeros (sent 1 1 2 0 0 0 200000 (tagLine 20230315) 34) 10
+    ∷  -- no claims need no room
+    row weekdays caseTables 20230404 0 zeros (sent 1 1 2 0 0 5 200000 (tagLine 20230315) 0) 0
+    ∷  -- a close
+    row weekdays caseTables 20230404 0 zeros (closing 2 35) 0
+    ∷  -- record before last day
+    row weekdays caseTables 20391229 0 zeros (closing 1 35) 5
+    ∷  -- last day before room
+    row weekdays lateTables 20391229 0 held (closing 2 0) 9
+    ∷  -- room
+    row weekdays caseTables 20230331 0 held (closing 2 34) 10
+    ∷  -- exact room
+    row weekdays caseTables 20230331 0 held (closing 2 35) 0
+    ∷  -- any count
+    row weekdays caseTables 20230404 4294967295 zeros (closing 2 35) 0
+    ∷ []
+
+-- an accepted opening sets the count and all balances to zero; a refused one returns day 20000101 and count 0 and leaves the balances
+sevens : List ℕ
+sevens = replicate 4096 7
+
+opening : ℕ → ℕ → ℕ → ℕ → Bool
+opening day number returned balance =
+    let o = opened weekdays caseTables sevens day in
+    eqb (o .number) number && eqb (o .book .day) returned && eqb (o .book .count) 0 && all (λ w. eqb w balance) (o .balances) && eqb (length (o .balances)) 4096
+
+openings : Bool
+openings = opening 20230404 0 20230404 0 && opening 20230401 4 20000101 7 && opening 20391230 4 20000101 7
+
+rows-hold : openings && all (λ r. eqb (numberFor (r .calendar) (r .tables) (r .book) (r .balances) (r .call)) (r .number)) rows ≡ true
+unfolding tag line tagLine blank twoTags openTag badTag sent closing zeros held lateTables rows below all bytesOf numberOf total encode decode firstOf sum select lastOf tabulate each eachOf leapDay monthLength isDate wordOf dateOf lengthOf bitOn badFrom badCalendar isOpen lowestFrom seekFrom openAt openAfter openFrom highestBelow lastBelow lastOpen isWeekday weekdayWord weekdaysFrom weekdays transferKind closeKind claimKind size recordBytes claimValues transferOf firstLine secondLine headed reads securityOf typeOf frequencyOf rowOf rowsFrom rowsOf isEmpty isFilled filledRows goodRow goodRows goodSecurity goodTables caseTables opener same tagged openersFrom openers endIn endFrom isDigit digitsAfter digitsNumber writesDate tagHolding tagAt tagOf contractDate isSeveral isUnended isNotDate editCauses centsOn amount outcomeOf isLate releaseOf isEarly slotOf claimOn messageTag maximumNumbers maximumFor eligibleIn eligible fails dues transferParties transferClaims crosses crossed loanParties loanClaim securityBalances lenderBalances rowClaims closeClaims claimBytes bytesOfAll written word position balanceAt layout increasing decreasing bySender byReceiver changeOf changed aboveBalance pastLimit wrongLength badDay goodBalance goodBalancesFrom badBalances tableCauses bookCauses openingCauses bufferOf claimsOf recordCauses outOfRange fieldCauses countCauses loanCauses lastDayCauses roomCauses callCauses causes numberFor openingNumber openedFor opened sevens opening openings
+rows-hold = refl

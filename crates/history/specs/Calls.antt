@@ -1,0 +1,25 @@
+-- The calls of a list, their arguments, and the claims that they give. All calls of a list get the same calendar and tables.
+use mathlib.Core.List.{List, [], _∷_}
+use Prim.Native.Nat.{ℕ, _+_}
+use Rattle.records.specs.declared.Claim.{Claim}
+use Rattle.book.specs.declared.Book.{Book}
+use Rattle.claims.specs.Fails.{transferClaims}
+use Rattle.claims.specs.Close.{closeClaims}
+
+-- A call's own arguments: its message, and its claim buffer as the call finds it.
+pub record Arguments : Type 0 where
+  pub message : List ℕ
+  pub buffer : List ℕ
+
+pub data Call : Type 0 where
+  transfer : Arguments → Call
+  close : Arguments → Call
+
+unfoldable pub bufferOf : Call → List ℕ
+bufferOf (transfer a) = a .buffer
+bufferOf (close a) = a .buffer
+
+-- The claims of a call on a book and balances. Accepted transfers of every code are numbered from 1.
+unfoldable pub claimsOf : List ℕ → List ℕ → Book → List ℕ → Call → List Claim
+claimsOf calendar tables book balances (transfer a) = transferClaims calendar tables (book .day) (book .count + 1) (a .message)
+claimsOf calendar tables book balances (close a) = closeClaims calendar tables (book .day) balances

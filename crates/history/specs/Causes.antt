@@ -1,0 +1,86 @@
+-- Document 01, section What can be refused: the causes of each call in the paper's order, in groups, and the number of the first.
+use mathlib.Core.Bool.{Bool, not, _||_}
+use mathlib.Core.List.{List, [], _∷_, _++_}
+use Prim.Native.Nat.{ℕ, _*_}
+use lib.Dec.{eqb, ltb, leb}
+use lib.ListN.{length}
+use Rattle.lists.specs.First.{Cause, cause, firstOf}
+use Rattle.days.specs.Days.{openAfter}
+use Rattle.records.specs.declared.Claim.{Claim}
+use Rattle.records.specs.declared.Transfer.{Transfer}
+use Rattle.records.specs.MessageRecords.{Kind, transferKind, closeKind, transferOf, reads}
+use Rattle.securities.specs.Securities.{securityOf, typeOf}
+use Rattle.tags.specs.ContractDateTag.{editCauses}
+use Rattle.claims.specs.Fails.{messageTag}
+use Rattle.claims.specs.Written.{claimSize}
+use Rattle.book.specs.declared.Book.{Book}
+use Rattle.book.specs.Loans.{changeOf, aboveBalance, pastLimit}
+use Rattle.book.specs.Soundness.{bookCauses, openingCauses}
+use Rattle.history.specs.Calls.{Arguments, Call, transfer, close, bufferOf, claimsOf}
+
+-- The record is cut short, or its length or kind is wrong for the call: number 5.
+unfoldable pub recordCauses : Kind → List ℕ → List Cause
+recordCauses kind message = cause 5 (not (reads kind message)) ∷ []
+
+-- A transfer's par is 1 to 100,000,000.
+abbrev pub largestPar : ℕ
+largestPar = 100000000
+
+-- Account, security (or unused), class, code over 6 or par out of range; sender = receiver: number 6.
+unfoldable pub outOfRange : List ℕ → Transfer → Bool
+outOfRange tables t =
+    leb 16 (t .sender) || leb 16 (t .receiver) || leb 16 (t .security) || eqb (typeOf (securityOf tables (t .security))) 0
+    || ltb 1 (t .class) || ltb 6 (t .code) || eqb (t .par) 0 || ltb largestPar (t .par) || eqb (t .sender) (t .receiver)
+
+unfoldable pub fieldCauses : List ℕ → List ℕ → List Cause
+fieldCauses tables m = cause 6 (outOfRange tables (transferOf m)) ∷ []
+
+-- The count is already 4,294,967,295: number 11.
+abbrev pub largestCount : ℕ
+largestCount = 4294967295
+
+unfoldable pub countCauses : ℕ → List Cause
+countCauses count = cause 11 (leb largestCount count) ∷ []
+
+-- A decrease above the balance: 7. An increase past 9,000,000,000: 8.
+unfoldable pub loanCauses : List ℕ → List ℕ → List Cause
+loanCauses balances m =
+    let t = transferOf m in
+    cause 7 (aboveBalance balances (changeOf t) (t .par))
+    ∷ cause 8 (pastLimit balances (changeOf t) (t .par))
+    ∷ []
+
+-- No open day after E, the next open day: number 9.
+unfoldable pub lastDayCauses : List ℕ → ℕ → List Cause
+lastDayCauses calendar day = cause 9 (eqb (openAfter calendar (openAfter calendar day)) 0) ∷ []
+
+-- The claims don't fit the claim buffer: number 10.
+unfoldable pub roomCauses : List Claim → List ℕ → List Cause
+roomCauses claims buffer = cause 10 (ltb (length buffer) (claimSize * length claims)) ∷ []
+
+-- ---- the causes of a call
+
+-- Those behind numbers 1 to 4.
+unfoldable pub callCauses : List ℕ → List ℕ → Book → List ℕ → Call → List Cause
+callCauses calendar tables book balances (transfer a) =
+    recordCauses transferKind (a .message)
+    ++ (fieldCauses tables (a .message)
+    ++ (editCauses (messageTag (a .message)) (transferOf (a .message) .class) (book .day)
+    ++ (countCauses (book .count)
+    ++ (loanCauses balances (a .message)
+    ++ roomCauses (claimsOf calendar tables book balances (transfer a)) (a .buffer)))))
+callCauses calendar tables book balances (close a) =
+    recordCauses closeKind (a .message)
+    ++ (lastDayCauses calendar (book .day)
+    ++ roomCauses (claimsOf calendar tables book balances (close a)) (a .buffer))
+
+unfoldable pub causes : List ℕ → List ℕ → Book → List ℕ → Call → List Cause
+causes calendar tables book balances call =
+    bookCauses calendar tables (book .day) balances ++ callCauses calendar tables book balances call
+
+-- The number of a call: that of its first cause that applies, 0 if none does.
+unfoldable pub numberFor : List ℕ → List ℕ → Book → List ℕ → Call → ℕ
+numberFor calendar tables book balances call = firstOf (causes calendar tables book balances call)
+
+unfoldable pub openingNumber : List ℕ → List ℕ → List ℕ → ℕ → ℕ
+openingNumber calendar tables balances day = firstOf (openingCauses calendar tables balances day)

@@ -1,0 +1,6 @@
+pub mod Calls
+pub mod Causes
+pub mod Results
+pub mod Ledger
+pub mod Owed
+pub mod Statement

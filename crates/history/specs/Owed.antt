@@ -1,0 +1,42 @@
+-- Document 01, section The tally: what a history owes, said from the accepted messages' own fields.
+use mathlib.Core.Bool.{Bool, cond, _&&_}
+use mathlib.Core.List.{List, [], _∷_}
+use Prim.Native.Nat.{ℕ, _+_}
+use lib.Dec.{eqb}
+use Rattle.lists.specs.Sums.{sum}
+use Rattle.records.specs.MessageRecords.{transferOf}
+use Rattle.securities.specs.Securities.{Row}
+use Rattle.tags.specs.ContractDateTag.{tagged}
+use Rattle.claims.specs.Amounts.{Part, amount, Parties}
+use Rattle.claims.specs.Fails.{messageTag, eligible}
+use Rattle.claims.specs.Close.{crossed}
+use Rattle.history.specs.Calls.{Call, transfer, close}
+use Rattle.history.specs.Ledger.{Entry, parLent}
+
+-- The amount rule added up over the rows whose numbers pass a test.
+unfoldable pub amounts : Part → (ℕ → Bool) → ℕ → List Row → ℕ
+amounts part rowTest par rows = sum (λ row. cond (rowTest (row .index)) (amount part par row) 0) rows
+
+-- A failed transfer from the payer to the payee in the security: code 0 and a tag.
+unfoldable pub isFailed : List ℕ → Parties → Bool
+isFailed m x =
+    (eqb (transferOf m .code) 0 && tagged (messageTag m))
+    && (eqb (transferOf m .security) (x .security) && eqb (transferOf m .receiver) (x .payee) && eqb (transferOf m .sender) (x .payer))
+
+-- What the payee has lent the payer.
+unfoldable pub lentBy : List Entry → Parties → ℕ
+lentBy es x = parLent es (record { security = x .security; lender = x .payee; borrower = x .payer })
+
+-- What a call that was accepted on a day, after the entries before it, adds: a failed transfer its eligible dates on its own par, a
+-- close the rows that it crosses on the par lent before it.
+unfoldable pub owedBy : List ℕ → List ℕ → Part → (ℕ → Bool) → List Entry → ℕ → Call → Parties → ℕ
+owedBy calendar tables part rowTest before day (transfer a) x =
+    cond (isFailed (a .message) x) (amounts part rowTest (transferOf (a .message) .par) (eligible tables day (a .message))) 0
+owedBy calendar tables part rowTest before day (close a) x =
+    amounts part rowTest (lentBy before x) (crossed calendar tables day (x .security))
+
+-- What a history owes from the payer to the payee in the security, in one part of the payments, over the rows that pass the test.
+unfoldable pub owed : List ℕ → List ℕ → Part → (ℕ → Bool) → List Entry → Parties → ℕ
+owed calendar tables part rowTest [] x = 0
+owed calendar tables part rowTest (e ∷ before) x =
+    owedBy calendar tables part rowTest before (e .day) (e .call) x + owed calendar tables part rowTest before x

@@ -1,0 +1,88 @@
+-- What opening, transfer and close answer and leave, on any book and balances: the equations of the calls' contracts. Then a list of
+-- calls, each on the book and balances that the last one left.
+use mathlib.Core.List.{List, [], _∷_}
+use Prim.Native.Nat.{ℕ, zero, suc, _+_}
+use lib.ListN.{length, replicate}
+use Rattle.days.specs.Days.{firstDate, openAfter}
+use Rattle.records.specs.MessageRecords.{transferOf}
+use Rattle.claims.specs.Written.{written}
+use Rattle.book.specs.declared.Book.{Book}
+use Rattle.book.specs.Loans.{changeOf, changed}
+use Rattle.history.specs.Calls.{Call, transfer, close, bufferOf, claimsOf}
+use Rattle.history.specs.Causes.{numberFor, openingNumber}
+
+-- Number, returned book, how many claims were written, and the claim buffer after the call.
+pub record Answer : Type 0 where
+  pub number : ℕ
+  pub book : Book
+  pub claims : ℕ
+  pub buffer : List ℕ
+
+-- What a call answers, and the balances after it.
+pub record Result : Type 0 where
+  pub answer : Answer
+  pub balances : List ℕ
+
+-- The book after an accepted call: a transfer counts, a close moves the day to the next open day.
+unfoldable pub nextBook : List ℕ → Book → Call → Book
+nextBook calendar book (transfer a) = record { day = book .day; count = book .count + 1 }
+nextBook calendar book (close a) = record { day = openAfter calendar (book .day); count = book .count }
+
+-- The balances after an accepted call.
+unfoldable pub nextBalances : List ℕ → Call → List ℕ
+nextBalances balances (transfer a) = changed balances (changeOf (transferOf (a .message))) (transferOf (a .message) .par)
+nextBalances balances (close a) = balances
+
+-- A call that got a number. Accepted calls return 0, the new book and how many claims were written, from the buffer's start; any
+-- other number comes with the book given and 0 claims, and leaves everything as it was.
+unfoldable pub resultFor : ℕ → List ℕ → List ℕ → Book → List ℕ → Call → Result
+resultFor zero calendar tables book balances call =
+    let claims = claimsOf calendar tables book balances call in
+    record {
+      answer = record {
+        number = 0;
+        book = nextBook calendar book call;
+        claims = length claims;
+        buffer = written claims (bufferOf call);
+      };
+      balances = nextBalances balances call;
+    }
+resultFor (suc n) calendar tables book balances call =
+    record { answer = record { number = suc n; book = book; claims = 0; buffer = bufferOf call }; balances = balances }
+
+-- What a transfer or a close answers and leaves.
+unfoldable pub result : List ℕ → List ℕ → Book → List ℕ → Call → Result
+result calendar tables book balances call = resultFor (numberFor calendar tables book balances call) calendar tables book balances call
+
+-- ---- opening
+
+pub record Opened : Type 0 where
+  pub number : ℕ
+  pub book : Book
+  pub balances : List ℕ
+
+-- Opening sets the count and all balances to zero; refused, it returns day 20000101 and count 0 and leaves the balances.
+unfoldable pub openedFor : ℕ → List ℕ → ℕ → Opened
+openedFor zero balances day = record { number = 0; book = record { day = day; count = 0 }; balances = replicate (length balances) 0 }
+openedFor (suc n) balances day = record { number = suc n; book = record { day = firstDate; count = 0 }; balances = balances }
+
+unfoldable pub opened : List ℕ → List ℕ → List ℕ → ℕ → Opened
+opened calendar tables balances day = openedFor (openingNumber calendar tables balances day) balances day
+
+-- ---- a list of calls
+
+pub record Run : Type 0 where
+  pub answers : List Answer
+  pub book : Book
+  pub balances : List ℕ
+
+unfoldable pub run : List ℕ → List ℕ → Book → List ℕ → List Call → Run
+run calendar tables book balances [] = record { answers = []; book = book; balances = balances }
+run calendar tables book balances (call ∷ calls) =
+    let now = result calendar tables book balances call in
+    let rest = run calendar tables (now .answer .book) (now .balances) calls in
+    record { answers = now .answer ∷ rest .answers; book = rest .book; balances = rest .balances }
+
+-- A list of calls on what an opening leaves.
+unfoldable pub runFrom : List ℕ → List ℕ → Opened → List Call → Run
+runFrom calendar tables start calls = run calendar tables (start .book) (start .balances) calls

@@ -1,0 +1,8 @@
+pub mod Loops
+pub mod Readings
+pub mod Writings
+pub mod RecordKinds
+pub mod RoundTrips
+pub mod Behind
+pub mod Answers
+pub mod Examples
