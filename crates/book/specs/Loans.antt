@@ -1,9 +1,10 @@
 -- Document 01, section Loans: what a transfer does to the par on loan.
 use mathlib.Core.Bool.{Bool, true, false, cond, _||_}
-use mathlib.Core.List.{List}
+use mathlib.Core.List.{List, [], _∷_}
 use Prim.Native.Nat.{ℕ, _+_, _-_}
 use lib.Dec.{eqb, ltb}
 use lib.ListN.{set}
+use Rattle.lists.specs.First.{Cause, cause}
 use Rattle.records.specs.declared.Transfer.{Transfer}
 use Rattle.book.specs.Book.{largestBalance, Position, word, balanceAt}
 
@@ -47,3 +48,10 @@ unfoldable pub pastLimit : List ℕ → Change → ℕ → Bool
 pastLimit balances unchanged par = false
 pastLimit balances (increase p) par = ltb largestBalance (balanceAt balances p + par)
 pastLimit balances (decrease p) par = false
+
+-- Numbers 7 and 8 of a transfer.
+unfoldable pub loanCauses : List ℕ → Transfer → List Cause
+loanCauses balances t =
+    cause 7 (aboveBalance balances (changeOf t) (t .par))
+    ∷ cause 8 (pastLimit balances (changeOf t) (t .par))
+    ∷ []

@@ -7,14 +7,14 @@ use native.Mathlib.Omega.{arith}
 use lib.ListN.{length, drop, length-append, length-drop}
 use lib.Seq.{drop-at}
 use Rattle.lists.specs.Tests.{cond-true}
-use Rattle.lists.specs.Fields.{Fit, encode}
-use Rattle.lists.specs.Numbers.{bytesOf}
+use Rattle.lists.specs.Fields.{Fit}
 use Rattle.records.specs.declared.Claim.{Claim}
 use Rattle.records.specs.declared.ReadClaim.{ReadClaim}
 use Rattle.records.specs.declared.ReadClaim.the-variants.{Is, Refused}
-use Rattle.records.specs.MessageRecords.{claimKind, claimValues, claimOf, recordBytes, reads}
+use Rattle.records.specs.MessageRecords.{claimKind, claimValues, claimOf, reads}
 use Rattle.records.proofs.RoundTrips.{claim-read-written}
 use Rattle.claims.specs.Written.{claimBytes, bytesOfAll, written, readClaim, readings, AllRead}
+use Rattle.claims.specs.Passes.{claim-length, all-length}
 
 -- a claim whose fields fit their widths
 abbrev pub Fits : Claim → Type 0
@@ -27,17 +27,6 @@ AllFit (c ∷ cs) = Fits c × AllFit cs
 pub all-fit-append : (xs ys : List Claim) → AllFit xs → AllFit ys → AllFit (xs ++ ys)
 all-fit-append [] ys h k = k
 all-fit-append (x ∷ xs) ys h k = (h .0, all-fit-append xs ys (h .1) k)
-
--- ---- lengths
-
-pub claim-length : (c : Claim) → length (claimBytes c) ≡ 35
-unfolding claimBytes recordBytes claimKind claimValues encode bytesOf
-claim-length c = refl
-
-all-length : (cs : List Claim) → length (bytesOfAll cs) ≡ 35 * length cs
-unfolding bytesOfAll
-all-length [] = refl
-all-length (c ∷ cs) = length-append (claimBytes c) (bytesOfAll cs) ∙ rw (claim-length c, all-length cs) (omega arith)
 
 -- ---- read back
 

@@ -2,3 +2,4 @@ pub mod Amounts
 pub mod Fails
 pub mod Close
 pub mod Written
+pub mod Passes

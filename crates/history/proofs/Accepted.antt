@@ -16,11 +16,11 @@ use Rattle.records.specs.MessageRecords.{transferKind, closeKind, transferOf, r
 use Rattle.tags.specs.ContractDateTag.{editCauses}
 use Rattle.book.specs.declared.Book.{Book}
 use Rattle.book.specs.Book.{Position, InRange}
-use Rattle.book.specs.Loans.{Change, unchanged, increase, decrease, increasing, decreasing, bySender, byReceiver, changeOf, aboveBalance}
+use Rattle.book.specs.Loans.{Change, unchanged, increase, decrease, increasing, decreasing, bySender, byReceiver, changeOf, aboveBalance, loanCauses}
 use Rattle.book.specs.Soundness.{tableCauses, bookCauses, openingCauses}
 use Rattle.book.proofs.Judged.{SoundBook, sound-book, SoundOpening, sound-opening, numbered-opening}
 use Rattle.history.specs.Calls.{Arguments, Call, transfer, close, bufferOf, claimsOf}
-use Rattle.history.specs.Causes.{recordCauses, outOfRange, fieldCauses, countCauses, loanCauses, lastDayCauses, roomCauses, callCauses, causes, numberFor, openingNumber}
+use Rattle.history.specs.Causes.{recordCauses, outOfRange, fieldCauses, countCauses, lastDayCauses, roomCauses, callCauses, causes, numberFor, openingNumber}
 
 -- ---- the tables' numbers
 

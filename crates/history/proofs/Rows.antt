@@ -25,10 +25,10 @@ use Rattle.claims.specs.Fails.{messageTag, maximumNumbers, maximumFor, eligible
 use Rattle.claims.specs.Close.{crosses, crossed, loanParties, loanClaim, securityBalances, lenderBalances, rowClaims, closeClaims}
 use Rattle.claims.specs.Written.{claimBytes, bytesOfAll, written}
 use Rattle.book.specs.Book.{word, position, balanceAt, layout}
-use Rattle.book.specs.Loans.{increasing, decreasing, bySender, byReceiver, changeOf, changed, aboveBalance, pastLimit}
+use Rattle.book.specs.Loans.{increasing, decreasing, bySender, byReceiver, changeOf, changed, aboveBalance, pastLimit, loanCauses}
 use Rattle.book.specs.Soundness.{wrongLength, badDay, goodBalance, goodBalancesFrom, badBalances, tableCauses, bookCauses, openingCauses}
 use Rattle.history.specs.Calls.{Call, transfer, close, bufferOf, claimsOf}
-use Rattle.history.specs.Causes.{recordCauses, outOfRange, fieldCauses, countCauses, loanCauses, lastDayCauses, roomCauses, callCauses, causes, numberFor, openingNumber}
+use Rattle.history.specs.Causes.{recordCauses, outOfRange, fieldCauses, countCauses, lastDayCauses, roomCauses, callCauses, causes, numberFor, openingNumber}
 use Rattle.history.specs.Results.{openedFor, opened}
 
 -- ---- messages

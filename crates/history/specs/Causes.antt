@@ -14,7 +14,7 @@ use Rattle.tags.specs.ContractDateTag.{editCauses}
 use Rattle.claims.specs.Fails.{messageTag}
 use Rattle.claims.specs.Written.{claimSize}
 use Rattle.book.specs.declared.Book.{Book}
-use Rattle.book.specs.Loans.{changeOf, aboveBalance, pastLimit}
+use Rattle.book.specs.Loans.{loanCauses}
 use Rattle.book.specs.Soundness.{bookCauses, openingCauses}
 use Rattle.history.specs.Calls.{Arguments, Call, transfer, close, bufferOf, claimsOf}
 
@@ -42,14 +42,6 @@ largestCount = 4294967295
 unfoldable pub countCauses : ℕ → List Cause
 countCauses count = cause 11 (leb largestCount count) ∷ []
 
--- A decrease above the balance: 7. An increase past 9,000,000,000: 8.
-unfoldable pub loanCauses : List ℕ → List ℕ → List Cause
-loanCauses balances m =
-    let t = transferOf m in
-    cause 7 (aboveBalance balances (changeOf t) (t .par))
-    ∷ cause 8 (pastLimit balances (changeOf t) (t .par))
-    ∷ []
-
 -- No open day after E, the next open day: number 9.
 unfoldable pub lastDayCauses : List ℕ → ℕ → List Cause
 lastDayCauses calendar day = cause 9 (eqb (openAfter calendar (openAfter calendar day)) 0) ∷ []
@@ -67,7 +59,7 @@ callCauses calendar tables book balances (transfer a) =
     ++ (fieldCauses tables (a .message)
     ++ (editCauses (messageTag (a .message)) (transferOf (a .message) .class) (book .day)
     ++ (countCauses (book .count)
-    ++ (loanCauses balances (a .message)
+    ++ (loanCauses balances (transferOf (a .message))
     ++ roomCauses (claimsOf calendar tables book balances (transfer a)) (a .buffer)))))
 callCauses calendar tables book balances (close a) =
     recordCauses closeKind (a .message)
