@@ -13,8 +13,9 @@ use borrow.Author.Tests.{ltb-true, leb-true, lt-ltb, le-ltb, le-leb}
 use Rattle.lists.specs.Tests.{and-left, and-right}
 use Rattle.lists.specs.All.{all}
 use Rattle.lists.specs.Select.{select, lastOf, rising, select-agree, select-both, last-none, last-front, rising-select}
-use Rattle.records.specs.MessageRecords.{transferOf}
+use Rattle.records.specs.declared.Transfer.{Transfer}
 use Rattle.securities.specs.Securities.{Row, filledRows}
+use Rattle.tags.specs.declared.Tag.{Tag}
 use Rattle.claims.specs.Amounts.{failType}
 use Rattle.claims.specs.Fails.{eligibleIn, eligible, Due, due, fails, dues}
 
@@ -97,11 +98,11 @@ pub rows-of-dues : (claimType : ℕ) (rows : List Row) → map (λ d. d .row) (m
 rows-of-dues claimType [] = refl
 rows-of-dues claimType (row ∷ rows) = ap (_∷_ row) (rows-of-dues claimType rows)
 
-pub rising-dues : (tables : List ℕ) (day : ℕ) (m : List ℕ) → rising beneficiary (filledRows tables (transferOf m .security)) ≡ true
-    → rising beneficiary (map (λ d. d .row) (dues tables day m)) ≡ true
+pub rising-dues : (tables : List ℕ) (day : ℕ) (t : Transfer) (tag : Tag) → rising beneficiary (filledRows tables (t .security)) ≡ true
+    → rising beneficiary (map (λ d. d .row) (dues tables day t tag)) ≡ true
 unfolding dues eligible
-rising-dues tables day m e = go (fails m)
+rising-dues tables day t tag e = go (fails t tag)
   where
-    go : (b : Bool) → rising beneficiary (map (λ (d : Due). d .row) (cond b (map (due failType) (eligible tables day m)) [])) ≡ true
-    go true = rw (rows-of-dues failType (eligible tables day m)) (rising-eligible _ _ day (filledRows tables (transferOf m .security)) e)
+    go : (b : Bool) → rising beneficiary (map (λ (d : Due). d .row) (cond b (map (due failType) (eligible tables day t tag)) [])) ≡ true
+    go true = rw (rows-of-dues failType (eligible tables day t tag)) (rising-eligible _ _ day (filledRows tables (t .security)) e)
     go false = unfold rising in refl

@@ -145,7 +145,7 @@ maxima =
     && eqb (maximumFor maximumNumbers 1 3) 2 && eqb (maximumFor maximumNumbers 2 4) 1
 
 rows-hold :
-    all (λ r. sameBytes (bytesOfAll (transferClaims weekdays (r .tables) (r .day) 9 (r .message))) (r .claims)) transfers
+    all (λ r. sameBytes (bytesOfAll (transferClaims weekdays (r .tables) (r .day) 9 (transferOf (r .message)) (messageTag (r .message)))) (r .claims)) transfers
     && all (λ r. sameBytes (bytesOfAll (closeClaims weekdays (r .tables) (r .day) balances)) (r .claims)) closes
     && maxima ≡ true
 unfolding tagLine blank sent manyTables balances transfers closes sameBytes maxima all bytesOf numberOf encode select lastOf each eachOf leapDay monthLength isDate wordOf dateOf lengthOf bitOn lowestFrom seekFrom openAt openAfter openFrom isWeekday weekdayWord weekdaysFrom weekdays claimKind recordBytes claimValues transferOf firstLine secondLine securityOf typeOf frequencyOf rowOf rowsFrom rowsOf isEmpty isFilled filledRows caseTables opener same openersFrom openers endIn endFrom isDigit digitsAfter digitsNumber writesDate tagHolding tagAt tagOf tagged contractDate isSeveral isUnended isNotDate editCauses centsOn amount outcomeOf isLate releaseOf isEarly slotOf claimOn messageTag maximumNumbers maximumFor eligibleIn eligible fails dues transferParties transferClaims crosses crossed loanParties loanClaim securityBalances lenderBalances rowClaims closeClaims claimBytes bytesOfAll

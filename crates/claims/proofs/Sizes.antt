@@ -15,7 +15,9 @@ use Rattle.lists.specs.Tabulate.{each, eachOf}
 use Rattle.days.specs.Days.{bitOn, openAfter, openFrom, lastOpen}
 use Rattle.days.proofs.OpenDays.{Kept, after-small, from-small}
 use Rattle.records.specs.declared.Claim.{Claim}
-use Rattle.records.specs.MessageRecords.{claimKind, claimValues, transferOf}
+use Rattle.records.specs.MessageRecords.{claimKind, claimValues}
+use Rattle.records.specs.declared.Transfer.{Transfer}
+use Rattle.tags.specs.declared.Tag.{Tag}
 use Rattle.securities.specs.Securities.{securityOf, typeOf, Row, filledRows, goodRow}
 use Rattle.securities.proofs.Sound.{Good, good-row, Sound}
 use Rattle.claims.specs.Amounts.{ofInterest, ofPrincipal, centsOn, amount, outcomeOf, isLate, releaseOf, isEarly, slotOf, Parties, claimOn, failType, lendingType}
@@ -118,17 +120,17 @@ module _ (calendar tables : List ℕ) (kept : Kept calendar) where
     fit-dues day n x par rows b r c (and-right (rowFits (lastOpen calendar) row) _ d),
   )
 
-  pub fit-transfer : (day n : ℕ) (m : List ℕ) → n < 4294967296 → SmallParties (transferParties (transferOf m)) → transferOf m .par ≤ 9000000000
-      → Sound (lastOpen calendar) (filledRows tables (transferOf m .security)) → AllFit (transferClaims calendar tables day n m)
+  pub fit-transfer : (day n : ℕ) (t : Transfer) (tag : Tag) → n < 4294967296 → SmallParties (transferParties t) → t .par ≤ 9000000000
+      → Sound (lastOpen calendar) (filledRows tables (t .security)) → AllFit (transferClaims calendar tables day n t tag)
   unfolding transferClaims dues eligible eligibleIn
-  fit-transfer day n m b r c s = go (fails m)
+  fit-transfer day n t tag b r c s = go (fails t tag)
     where
-      go : (t : Bool)
-          → AllFit (map (λ (d : Due). claimOn calendar tables day n (transferParties (transferOf m)) (transferOf m .par) (d .claimType) (d .row))
-          (cond t (map (due failType) (eligible tables day m)) []))
+      go : (f : Bool)
+          → AllFit (map (λ (d : Due). claimOn calendar tables day n (transferParties t) (t .par) (d .claimType) (d .row))
+          (cond f (map (due failType) (eligible tables day t tag)) []))
       go true =
-          fit-dues day n (transferParties (transferOf m)) (transferOf m .par) (eligible tables day m) b r c
-          (all-select _ _ _ (all-last _ _ _ (all-select _ _ _ (sound-fit (lastOpen calendar) (filledRows tables (transferOf m .security)) s))))
+          fit-dues day n (transferParties t) (t .par) (eligible tables day t tag) b r c
+          (all-select _ _ _ (all-last _ _ _ (all-select _ _ _ (sound-fit (lastOpen calendar) (filledRows tables (t .security)) s))))
       go false = tt
 
   -- ---- the claims of a close

@@ -33,12 +33,11 @@ unfoldable pub eligibleIn : ℕ → ℕ → ℕ → List Row → List Row
 eligibleIn maximum contract day rows =
     select (λ row. ltb contract (row .beneficiaryDate)) (lastOf maximum (select (λ row. leb (row .beneficiaryDate) day) rows))
 
--- The eligible rows of a transfer's security.
-unfoldable pub eligible : List ℕ → ℕ → List ℕ → List Row
-eligible tables day m =
-    let s = transferOf m .security in
-    let words = securityOf tables s in
-    eligibleIn (maximumFor maximumNumbers (typeOf words) (frequencyOf words)) (contractDate (messageTag m)) day (filledRows tables s)
+-- The eligible rows of a transfer's security, for its tag.
+unfoldable pub eligible : List ℕ → ℕ → Transfer → Tag → List Row
+eligible tables day t tag =
+    let words = securityOf tables (t .security) in
+    eligibleIn (maximumFor maximumNumbers (typeOf words) (frequencyOf words)) (contractDate tag) day (filledRows tables (t .security))
 
 -- ---- the claims of a transfer
 
@@ -51,18 +50,18 @@ abbrev pub due : ℕ → Row → Due
 due claimType row = record { claimType = claimType; row = row }
 
 -- A failed transfer: only tracking code 0 with a tag.
-unfoldable pub fails : List ℕ → Bool
-fails m = eqb (transferOf m .code) 0 && tagged (messageTag m)
+unfoldable pub fails : Transfer → Tag → Bool
+fails t tag = eqb (t .code) 0 && tagged tag
 
 -- What a transfer claims, in table order.
-unfoldable pub dues : List ℕ → ℕ → List ℕ → List Due
-dues tables day m = cond (fails m) (map (due failType) (eligible tables day m)) []
+unfoldable pub dues : List ℕ → ℕ → Transfer → Tag → List Due
+dues tables day t tag = cond (fails t tag) (map (due failType) (eligible tables day t tag)) []
 
 -- Payer is the sender, payee the receiver.
 unfoldable pub transferParties : Transfer → Parties
 transferParties t = record { security = t .security; payee = t .receiver; payer = t .sender }
 
 -- The claims of the transfer with a number, on its own par.
-unfoldable pub transferClaims : List ℕ → List ℕ → ℕ → ℕ → List ℕ → List Claim
-transferClaims calendar tables day number m =
-    map (λ d. claimOn calendar tables day number (transferParties (transferOf m)) (transferOf m .par) (d .claimType) (d .row)) (dues tables day m)
+unfoldable pub transferClaims : List ℕ → List ℕ → ℕ → ℕ → Transfer → Tag → List Claim
+transferClaims calendar tables day number t tag =
+    map (λ d. claimOn calendar tables day number (transferParties t) (t .par) (d .claimType) (d .row)) (dues tables day t tag)

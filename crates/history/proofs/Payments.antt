@@ -19,7 +19,7 @@ use Rattle.records.specs.declared.ReadClaim.the-variants.{Is}
 use Rattle.records.specs.MessageRecords.{transferOf}
 use Rattle.securities.specs.Securities.{Row}
 use Rattle.claims.specs.Amounts.{Part, ofInterest, ofPrincipal, centsOn, amount, failType, lendingType, Parties, claimOn}
-use Rattle.claims.specs.Fails.{eligible, Due, due, fails, dues, transferParties, transferClaims}
+use Rattle.claims.specs.Fails.{messageTag, eligible, Due, due, fails, dues, transferParties, transferClaims}
 use Rattle.claims.specs.Close.{crossed, loanParties, loanClaim, securityBalances, lenderBalances, rowClaims, closeClaims}
 use Rattle.claims.proofs.Crossed.{balance-word}
 use Rattle.book.specs.Book.{Position, InRange, word, balanceAt}
@@ -83,7 +83,7 @@ unfolding amounts
 amounts-zero part rowTest rows = sum-zero _ rows (λ row. rw (amount-zero part row) (cond-zero (rowTest (row .index))))
 
 -- the claims of a transfer are a failed transfer's, from its sender to its receiver
-failed-test : (m : List ℕ) (x : Parties) → isFailed m x ≡ (fails m && between (transferParties (transferOf m)) x)
+failed-test : (m : List ℕ) (x : Parties) → isFailed m x ≡ (fails (transferOf m) (messageTag m) && between (transferParties (transferOf m)) x)
 unfolding isFailed fails between transferParties
 failed-test m x = refl
 
@@ -131,15 +131,19 @@ module _ (calendar tables : List ℕ) (part : Part) (rowTest : ℕ → Bool) (x 
 
   -- a failed transfer pays from its sender to its receiver, any other pays nothing
   pub pays-transfer : (day n : ℕ) (m : List ℕ)
-      → pays (transferClaims calendar tables day n m) ≡ cond (isFailed m x) (amounts part rowTest (transferOf m .par) (eligible tables day m)) 0
+      → pays (transferClaims calendar tables day n (transferOf m) (messageTag m))
+      ≡ cond (isFailed m x) (amounts part rowTest (transferOf m .par) (eligible tables day (transferOf m) (messageTag m))) 0
   unfolding transferClaims dues
-  pays-transfer day n m = rw (failed-test m x) (go (fails m))
+  pays-transfer day n m = rw (failed-test m x) (go (fails (transferOf m) (messageTag m)))
     where
+      rows : List Row
+      rows = eligible tables day (transferOf m) (messageTag m)
+
       go : (b : Bool)
           → pays (map (λ (d : Due). claimOn calendar tables day n (transferParties (transferOf m)) (transferOf m .par) (d .claimType) (d .row))
-          (cond b (map (due failType) (eligible tables day m)) []))
-          ≡ cond (b && between (transferParties (transferOf m)) x) (amounts part rowTest (transferOf m .par) (eligible tables day m)) 0
-      go true = pays-dues day n (transferParties (transferOf m)) (transferOf m .par) failType (eligible tables day m)
+          (cond b (map (due failType) rows) []))
+          ≡ cond (b && between (transferParties (transferOf m)) x) (amounts part rowTest (transferOf m .par) rows) 0
+      go true = pays-dues day n (transferParties (transferOf m)) (transferOf m .par) failType rows
       go false = pays-none
 
   -- ---- a close

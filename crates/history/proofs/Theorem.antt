@@ -14,7 +14,7 @@ use Rattle.records.specs.MessageRecords.{transferOf}
 use Rattle.securities.specs.Securities.{goodTables}
 use Rattle.securities.proofs.Sound.{sound-rows}
 use Rattle.claims.specs.Amounts.{Part, Parties}
-use Rattle.claims.specs.Fails.{transferParties}
+use Rattle.claims.specs.Fails.{messageTag, transferParties}
 use Rattle.claims.specs.Close.{crossed, closeClaims}
 use Rattle.claims.specs.Written.{readings, AllRead}
 use Rattle.claims.proofs.Crossed.{balance-word}
@@ -47,7 +47,7 @@ module _ (calendar tables : List ℕ) where
       let t = transferOf (a .message) in
       let f = k .fields in
       let s = k .sound .tables-sound in
-      fit-transfer calendar tables (kept s) (book .day) (book .count + 1) (a .message) (omega (arith, k .count))
+      fit-transfer calendar tables (kept s) (book .day) (book .count + 1) t (messageTag (a .message)) (omega (arith, k .count))
       (record { security = f .security; payee = f .receiver; payer = f .sender }) (omega (arith, f .par))
       (sound-rows calendar tables (t .security) (s .table-rules) (f .security))
   fit-claims book balances (close a) e =
@@ -233,7 +233,7 @@ module _ (calendar tables : List ℕ) where
         row-payments = λ part x row. rw (f .answers) (paid-from part (eqb row) x day calls);
         payments = λ part x. rw (f .answers) (paid-from part (λ row. true) x day calls);
         crossed-once = λ row. passed calendar tables day row calls (started day) (passed-started calendar tables day row) .crossed-once;
-        dates-once = λ m h. rising-dues tables (t .day) m (sound-rows calendar tables (transferOf m .security) sound h .beneficiaries);
+        dates-once = λ d tag h. rising-dues tables (t .day) d tag (sound-rows calendar tables (d .security) sound h .beneficiaries);
         accepted = λ call. accepted-iff calendar tables (bookOf t) (balancesOf t) call;
         refused = λ call d. not-kept _ t call d;
       }

@@ -3,7 +3,8 @@ use mathlib.Core.List.{List, [], _∷_}
 use Prim.Native.Nat.{ℕ, _+_}
 use Rattle.records.specs.declared.Claim.{Claim}
 use Rattle.book.specs.declared.Book.{Book}
-use Rattle.claims.specs.Fails.{transferClaims}
+use Rattle.records.specs.MessageRecords.{transferOf}
+use Rattle.claims.specs.Fails.{messageTag, transferClaims}
 use Rattle.claims.specs.Close.{closeClaims}
 
 -- A call's own arguments: its message, and its claim buffer as the call finds it.
@@ -21,5 +22,5 @@ bufferOf (close a) = a .buffer
 
 -- The claims of a call on a book and balances. Accepted transfers of every code are numbered from 1.
 unfoldable pub claimsOf : List ℕ → List ℕ → Book → List ℕ → Call → List Claim
-claimsOf calendar tables book balances (transfer a) = transferClaims calendar tables (book .day) (book .count + 1) (a .message)
+claimsOf calendar tables book balances (transfer a) = transferClaims calendar tables (book .day) (book .count + 1) (transferOf (a .message)) (messageTag (a .message))
 claimsOf calendar tables book balances (close a) = closeClaims calendar tables (book .day) balances

@@ -31,7 +31,7 @@ lentBy es x = parLent es (record { security = x .security; lender = x .payee; bo
 -- close the rows that it crosses on the par lent before it.
 unfoldable pub owedBy : List ℕ → List ℕ → Part → (ℕ → Bool) → List Entry → ℕ → Call → Parties → ℕ
 owedBy calendar tables part rowTest before day (transfer a) x =
-    cond (isFailed (a .message) x) (amounts part rowTest (transferOf (a .message) .par) (eligible tables day (a .message))) 0
+    cond (isFailed (a .message) x) (amounts part rowTest (transferOf (a .message) .par) (eligible tables day (transferOf (a .message)) (messageTag (a .message)))) 0
 owedBy calendar tables part rowTest before day (close a) x =
     amounts part rowTest (lentBy before x) (crossed calendar tables day (x .security))
 

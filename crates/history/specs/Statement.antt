@@ -19,8 +19,9 @@ use Rattle.days.specs.Days.{openAfter}
 use Rattle.records.specs.declared.Claim.{Claim}
 use Rattle.records.specs.declared.ReadClaim.{ReadClaim}
 use Rattle.records.specs.declared.ReadClaim.the-variants.{Is, Refused}
-use Rattle.records.specs.MessageRecords.{transferOf}
+use Rattle.records.specs.declared.Transfer.{Transfer}
 use Rattle.securities.specs.Securities.{Row}
+use Rattle.tags.specs.declared.Tag.{Tag}
 use Rattle.claims.specs.Amounts.{Part, ofInterest, ofPrincipal, Parties}
 use Rattle.claims.specs.Fails.{dues}
 use Rattle.claims.specs.Close.{crosses}
@@ -123,8 +124,8 @@ pub record AgreesWithLedger (calendar tables : List ℕ) (start : ℕ) (calls : 
       → paid part (λ row. true) (recordsIn (r .answers)) x ≡ owed calendar tables part (λ row. true) (j .ledger .entries) x
   pub crossed-once : (row : Row) → CrossedOnce calendar start (j .ledger) row
   -- The rows that the next transfer claims rise in Beneficiary Date, so none is claimed twice.
-  pub dates-once : (m : List ℕ) → transferOf m .security < 16
-      → rising (λ row. row .beneficiaryDate) (map (λ d. d .row) (dues tables (j .ledger .day) m)) ≡ true
+  pub dates-once : (t : Transfer) (tag : Tag) → t .security < 16
+      → rising (λ row. row .beneficiaryDate) (map (λ d. d .row) (dues tables (j .ledger .day) t tag)) ≡ true
   -- The next call is accepted exactly when no cause of its table applies; refused, it leaves the ledger as it was.
   pub accepted : (call : Call)
       → (numberOn calendar tables (j .ledger) call ≡ 0) ↔ NoneApplies (causes calendar tables (bookOf (j .ledger)) (balancesOf (j .ledger)) call)
