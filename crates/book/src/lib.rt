@@ -6,3 +6,11 @@ pub struct Book {
     pub day: u32,
     pub count: u32,
 }
+
+// What a call answers: its number, the book after it, and how many claims it wrote.
+#[repr(C)]
+pub struct Done {
+    pub number: u16,
+    pub book: Book,
+    pub claims: usize,
+}

@@ -20,13 +20,13 @@ use Rattle.book.specs.Loans.{Change, unchanged, increase, decrease, increasing,
 use Rattle.book.specs.Soundness.{tableCauses, bookCauses, openingCauses}
 use Rattle.book.proofs.Judged.{SoundBook, sound-book, SoundOpening, sound-opening, numbered-opening}
 use Rattle.history.specs.Calls.{Arguments, Call, transfer, close, bufferOf, claimsOf}
-use Rattle.history.specs.Causes.{recordCauses, outOfRange, fieldCauses, countCauses, lastDayCauses, roomCauses, callCauses, causes, numberFor, openingNumber}
+use Rattle.history.specs.Causes.{recordCauses, outOfRange, fieldCauses, countCauses, lastDayCauses, roomCauses, transferCauses, callCauses, causes, numberFor, openingNumber}
 
 -- ---- the tables' numbers
 
 pub numbered-causes : (calendar tables : List ℕ) (book : Book) (balances : List ℕ) (call : Call)
     → numbered (causes calendar tables book balances call) ≡ true
-unfolding numbered causes callCauses bookCauses tableCauses recordCauses fieldCauses editCauses countCauses loanCauses lastDayCauses roomCauses
+unfolding numbered causes callCauses transferCauses bookCauses tableCauses recordCauses fieldCauses editCauses countCauses loanCauses lastDayCauses roomCauses
 numbered-causes calendar tables book balances (transfer a) = refl
 numbered-causes calendar tables book balances (close a) = refl
 
@@ -89,7 +89,7 @@ pub record Taken (calendar tables : List ℕ) (book : Book) (balances : List ℕ
 
 pub taken : (calendar tables : List ℕ) (book : Book) (balances : List ℕ) (a : Arguments)
     → numberFor calendar tables book balances (transfer a) ≡ 0 → Taken calendar tables book balances a
-unfolding causes callCauses bookCauses tableCauses recordCauses fieldCauses editCauses countCauses loanCauses roomCauses appliesAt
+unfolding causes callCauses transferCauses bookCauses tableCauses recordCauses fieldCauses editCauses countCauses loanCauses roomCauses appliesAt
 taken calendar tables book balances a e =
     let cs = causes calendar tables book balances (transfer a) in
     let k = none-of calendar tables book balances (transfer a) e in
@@ -112,7 +112,7 @@ pub record Closed (calendar tables : List ℕ) (book : Book) (balances : List �
 
 pub closed : (calendar tables : List ℕ) (book : Book) (balances : List ℕ) (a : Arguments)
     → numberFor calendar tables book balances (close a) ≡ 0 → Closed calendar tables book balances a
-unfolding causes callCauses bookCauses tableCauses recordCauses lastDayCauses roomCauses appliesAt
+unfolding causes callCauses transferCauses bookCauses tableCauses recordCauses lastDayCauses roomCauses appliesAt
 closed calendar tables book balances a e =
     let cs = causes calendar tables book balances (close a) in
     let k = none-of calendar tables book balances (close a) e in

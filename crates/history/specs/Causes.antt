@@ -10,6 +10,7 @@ use Rattle.records.specs.declared.Claim.{Claim}
 use Rattle.records.specs.declared.Transfer.{Transfer}
 use Rattle.records.specs.MessageRecords.{Kind, transferKind, closeKind, transferOf, reads}
 use Rattle.securities.specs.Securities.{securityOf, typeOf}
+use Rattle.tags.specs.declared.Tag.{Tag}
 use Rattle.tags.specs.ContractDateTag.{editCauses}
 use Rattle.claims.specs.Fails.{messageTag}
 use Rattle.claims.specs.Written.{claimSize}
@@ -32,8 +33,8 @@ outOfRange tables t =
     leb 16 (t .sender) || leb 16 (t .receiver) || leb 16 (t .security) || eqb (typeOf (securityOf tables (t .security))) 0
     || ltb 1 (t .class) || ltb 6 (t .code) || eqb (t .par) 0 || ltb largestPar (t .par) || eqb (t .sender) (t .receiver)
 
-unfoldable pub fieldCauses : List ℕ → List ℕ → List Cause
-fieldCauses tables m = cause 6 (outOfRange tables (transferOf m)) ∷ []
+unfoldable pub fieldCauses : List ℕ → Transfer → List Cause
+fieldCauses tables t = cause 6 (outOfRange tables t) ∷ []
 
 -- The count is already 4,294,967,295: number 11.
 abbrev pub largestCount : ℕ
@@ -52,15 +53,20 @@ roomCauses claims buffer = cause 10 (ltb (length buffer) (claimSize * length cla
 
 -- ---- the causes of a call
 
+-- Those of a transfer that reads, by its fields and its tag, before room is asked for.
+unfoldable pub transferCauses : List ℕ → Book → List ℕ → Transfer → Tag → List Cause
+transferCauses tables book balances t tag =
+    fieldCauses tables t
+    ++ (editCauses tag (t .class) (book .day)
+    ++ (countCauses (book .count)
+    ++ loanCauses balances t))
+
 -- Those behind numbers 1 to 4.
 unfoldable pub callCauses : List ℕ → List ℕ → Book → List ℕ → Call → List Cause
 callCauses calendar tables book balances (transfer a) =
     recordCauses transferKind (a .message)
-    ++ (fieldCauses tables (a .message)
-    ++ (editCauses (messageTag (a .message)) (transferOf (a .message) .class) (book .day)
-    ++ (countCauses (book .count)
-    ++ (loanCauses balances (transferOf (a .message))
-    ++ roomCauses (claimsOf calendar tables book balances (transfer a)) (a .buffer)))))
+    ++ (transferCauses tables book balances (transferOf (a .message)) (messageTag (a .message))
+    ++ roomCauses (claimsOf calendar tables book balances (transfer a)) (a .buffer))
 callCauses calendar tables book balances (close a) =
     recordCauses closeKind (a .message)
     ++ (lastDayCauses calendar (book .day)

@@ -7,6 +7,7 @@ use Rattle.days.specs.Days.{firstDate, openAfter}
 use Rattle.records.specs.MessageRecords.{transferOf}
 use Rattle.claims.specs.Written.{written}
 use Rattle.book.specs.declared.Book.{Book}
+use Rattle.book.specs.declared.Done.{Done}
 use Rattle.book.specs.Loans.{changeOf, changed}
 use Rattle.history.specs.Calls.{Call, transfer, close, bufferOf, claimsOf}
 use Rattle.history.specs.Causes.{numberFor, openingNumber}
@@ -50,6 +51,11 @@ resultFor zero calendar tables book balances call =
 resultFor (suc n) calendar tables book balances call =
     record { answer = record { number = suc n; book = book; claims = 0; buffer = bufferOf call }; balances = balances }
 
+-- What a call's answer says with the claim buffer and the balances that it leaves.
+unfoldable pub left : Done → List ℕ → List ℕ → Result
+left d buffer balances =
+    record { answer = record { number = d .number; book = d .book; claims = d .claims; buffer = buffer }; balances = balances }
+
 -- What a transfer or a close answers and leaves.
 unfoldable pub result : List ℕ → List ℕ → Book → List ℕ → Call → Result
 result calendar tables book balances call = resultFor (numberFor calendar tables book balances call) calendar tables book balances call
@@ -60,6 +66,10 @@ pub record Opened : Type 0 where
   pub number : ℕ
   pub book : Book
   pub balances : List ℕ
+
+-- What an opening's answer says with the balances that it leaves.
+unfoldable pub leftOpen : Done → List ℕ → Opened
+leftOpen d balances = record { number = d .number; book = d .book; balances = balances }
 
 -- Opening sets the count and all balances to zero; refused, it returns day 20000101 and count 0 and leaves the balances.
 unfoldable pub openedFor : ℕ → List ℕ → ℕ → Opened
