@@ -142,3 +142,9 @@ sound-opening calendar tables balances day n =
       tables-sound = sound-tables calendar tables balances (cleared-by 1 cs n) (cleared-by 2 cs n) (cleared-by 3 cs n);
       day-sound = sound-day calendar day (cleared-by 4 cs n);
     }
+
+-- where the number of the causes 1 to 4 is 0
+pub sound-number : (calendar tables : List ℕ) (day : ℕ) (balances : List ℕ) → firstOf (bookCauses calendar tables day balances) ≡ 0
+    → SoundBook calendar tables day balances
+sound-number calendar tables day balances z =
+    sound-book calendar tables day balances (none-applies _ (numbered-book calendar tables day balances) z)

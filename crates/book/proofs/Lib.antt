@@ -1,3 +1,5 @@
 pub mod Words
 pub mod Judged
 pub mod Rows
+pub mod Causes
+pub mod Posted

@@ -1,4 +1,14 @@
-// The book and its balances (document 01, sections The book and Loans).
+// The book and its balances (document 01, sections The book and Loans), with the numbers 1 to 4, 7 and 8 of what can be refused.
+// Calendar, tables and balances are taken in any length where a function gives number 1.
+ghost use mathlib.Core.Path.{_≡_};
+ghost use Prim.Native.Nat.{_<_};
+ghost use lib.ListN.{length, replicate};
+ghost use Rattle.lists.specs.First.{firstOf};
+ghost use Rattle.book.specs.Book.{word, position};
+ghost use Rattle.book.specs.Loans.{increasing, decreasing, changeOf, changed, loanCauses};
+ghost use Rattle.book.specs.Soundness.{badDay, goodBalance, badBalances, tableCauses, bookCauses, openingCauses};
+use days::Day;
+use records::Transfer;
 
 // A book's day and the number of its accepted transfers.
 #[repr(C)]
@@ -7,10 +17,212 @@ pub struct Book {
     pub count: u32,
 }
 
+// The words of the calendar, the tables and the balances.
+const CALENDAR_WORDS: usize = 480;
+
+const TABLE_WORDS: usize = 1824;
+
+const BALANCE_WORDS: usize = 4096;
+
 // What a call answers: its number, the book after it, and how many claims it wrote.
 #[repr(C)]
 pub struct Done {
     pub number: u16,
     pub book: Book,
     pub claims: usize,
+}
+
+// The answer to a refused call: its number, the book given and no claims.
+pub fn refused(number: u16, book: Book) -> Done
+    ensures { λ r. ⌜ r ≡ record { number = number; book = book; claims = 0 } ⌝ }
+{
+    Done {
+        number,
+        book,
+        claims: 0,
+    }
+}
+
+// The largest balance.
+const LARGEST_BALANCE: u64 = 9_000_000_000;
+
+// The number 1, 2 or 3 that calendar, tables and balances meet, 0 where they meet none.
+fn table_number(calendar: &[u32], tables: &[u32], balances: &[u64]) -> u16
+    ensures { λ r. ⌜ r ≡ firstOf (tableCauses (now (calendar .entry)) (now (tables .entry)) (now (balances .entry))) ⌝ }
+{
+    if calendar.len() != CALENDAR_WORDS {
+        return 1;
+    }
+    if tables.len() != TABLE_WORDS {
+        return 1;
+    }
+    if balances.len() != BALANCE_WORDS {
+        return 1;
+    }
+    if days::bad_calendar(calendar) {
+        return 2;
+    }
+    if securities::good_tables(calendar, tables) {
+        return 0;
+    }
+    3
+}
+
+// Whether a day is not open or has no open day after it.
+fn bad_day(calendar: &[u32], day: u32) -> bool
+    requires { ⌜ length (now calendar) ≡ 480 ⌝ }
+    ensures { λ r. ⌜ r ≡ badDay (now (calendar .entry)) day ⌝ }
+{
+    if days::is_open(calendar, day) {
+        match days::open_after(calendar, day) {
+            Day::On(_) => false,
+            Day::Nothing => true,
+        }
+    } else {
+        true
+    }
+}
+
+// Whether word w may hold a par.
+fn good_balance(w: usize, par: u64) -> bool
+    ensures { λ r. ⌜ r ≡ goodBalance (position w) par ⌝ }
+{
+    if par == 0 {
+        return true;
+    }
+    if LARGEST_BALANCE < par {
+        return false;
+    }
+    w / 16 % 16 != w % 16
+}
+
+// Whether a balance is too large, or nonzero where an account would lend itself.
+fn bad_balances(balances: &[u64]) -> bool
+    ensures { λ r. ⌜ r ≡ badBalances (now (balances .entry)) ⌝ }
+{
+    let mut w: usize = 0;
+    while w < balances.len() {
+        if !good_balance(w, balances[w]) {
+            return true;
+        }
+        w += 1;
+    }
+    false
+}
+
+// The first of the numbers 1 to 4 that a transfer or a close meets, 0 where it meets none.
+pub fn book_number(calendar: &[u32], tables: &[u32], day: u32, balances: &[u64]) -> u16
+    ensures { λ r. ⌜ r ≡ firstOf (bookCauses (now (calendar .entry)) (now (tables .entry)) day (now (balances .entry))) ⌝ }
+{
+    let number = table_number(calendar, tables, balances);
+    if number != 0 {
+        return number;
+    }
+    if bad_day(calendar, day) {
+        return 4;
+    }
+    if bad_balances(balances) {
+        return 4;
+    }
+    0
+}
+
+// The first of the numbers 1 to 4 that an opening meets, 0 where it meets none; what the balances hold does not matter.
+pub fn opening_number(calendar: &[u32], tables: &[u32], balances: &[u64], day: u32) -> u16
+    ensures { λ r. ⌜ r ≡ firstOf (openingCauses (now (calendar .entry)) (now (tables .entry)) (now (balances .entry)) day) ⌝ }
+{
+    let number = table_number(calendar, tables, balances);
+    if number != 0 {
+        return number;
+    }
+    if bad_day(calendar, day) {
+        return 4;
+    }
+    0
+}
+
+// Whether a tracking code adds to what the sender has lent the receiver.
+fn increases(code: u8) -> bool
+    ensures { λ r. ⌜ r ≡ increasing code ⌝ }
+{
+    if code == 1 {
+        return true;
+    }
+    if code == 4 {
+        return true;
+    }
+    code == 5
+}
+
+// Whether a tracking code takes from what the receiver has lent the sender.
+fn decreases(code: u8) -> bool
+    ensures { λ r. ⌜ r ≡ decreasing code ⌝ }
+{
+    if code == 2 {
+        return true;
+    }
+    if code == 3 {
+        return true;
+    }
+    code == 6
+}
+
+// The word of what a lender has lent a borrower in a security.
+fn word_of(security: u8, lender: u8, borrower: u8) -> usize
+    requires { ⌜ (security < 16) × (lender < 16) × (borrower < 16) ⌝ }
+    ensures { λ r. ⌜ (r ≡ word (record { security = security; lender = lender; borrower = borrower })) × (r < 4096) ⌝ }
+{
+    256 * (security as usize) + 16 * (lender as usize) + borrower as usize
+}
+
+// Number 7 for a decrease above the balance, 8 for an increase past the largest balance, 0 for any other transfer.
+pub fn loan_number(balances: &[u64], t: Transfer) -> u16
+    requires { ⌜ (length (now balances) ≡ 4096) × (t .sender < 16) × (t .receiver < 16) × (t .security < 16) ⌝ }
+    ensures { λ r. ⌜ r ≡ firstOf (loanCauses (now (balances .entry)) t) ⌝ }
+{
+    let par = t.par as u64;
+    if increases(t.code) {
+        let lent = balances[word_of(t.security, t.sender, t.receiver)];
+        if LARGEST_BALANCE - par < lent {
+            return 8;
+        }
+        return 0;
+    }
+    if decreases(t.code) {
+        let borrowed = balances[word_of(t.security, t.receiver, t.sender)];
+        if borrowed < par {
+            return 7;
+        }
+        return 0;
+    }
+    0
+}
+
+// Adds an accepted transfer's par to its balance or takes it away.
+pub fn post(balances: &mut [u64], t: Transfer)
+    requires { ⌜ (length (now balances) ≡ 4096) × (t .sender < 16) × (t .receiver < 16) × (t .security < 16) × (firstOf (loanCauses (now balances) t) ≡ 0) ⌝ }
+    ensures { λ _. ⌜ now (balances .exit) ≡ changed (now (balances .entry)) (changeOf t) (t .par) ⌝ }
+{
+    let par = t.par as u64;
+    if increases(t.code) {
+        let w = word_of(t.security, t.sender, t.receiver);
+        balances[w] = balances[w] + par;
+        return;
+    }
+    if decreases(t.code) {
+        let w = word_of(t.security, t.receiver, t.sender);
+        balances[w] = balances[w] - par;
+        return;
+    }
+}
+
+// Sets every balance to zero.
+pub fn clear(balances: &mut [u64])
+    ensures { λ _. ⌜ now (balances .exit) ≡ replicate (length (now (balances .entry))) 0 ⌝ }
+{
+    let mut i: usize = 0;
+    while i < balances.len() {
+        balances[i] = 0;
+        i += 1;
+    }
 }

@@ -4,3 +4,7 @@ pub mod Crossed
 pub mod Written
 pub mod Sizes
 pub mod Rows
+pub mod Making
+pub mod Reached
+pub mod RowLoops
+pub mod Turns

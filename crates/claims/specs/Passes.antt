@@ -3,7 +3,7 @@
 use mathlib.Core.Path.{_≡_, refl, ap, sym, _∙_, subst}
 use mathlib.Core.Bool.{Bool, true, false, cond, true≢false}
 use mathlib.Core.List.{List, [], _∷_, _++_, append-assoc, append-nil}
-use Prim.Native.Nat.{ℕ, zero, suc, _+_, _-_, _*_, _≤_}
+use Prim.Native.Nat.{ℕ, zero, suc, _+_, _-_, _*_, _≤_, _<_}
 use native.Mathlib.Omega.{arith}
 use native.Mathlib.Numerals.{add-one}
 use native.Mathlib.Nat.{add-zero, add-suc, mul-suc}
@@ -171,3 +171,37 @@ pass-now w f k c l b n m h free p e =
 
 pub pass-end : (w : Bool) (f : ℕ → List Claim) (k c : ℕ) (l b : List ℕ) (n m : ℕ) → k ≡ c → Passed w l b n m (each k f) → Passed w l b n m (each c f)
 pass-end w f k c l b n m e p = subst (λ (x : ℕ). Passed w l b n m (each x f)) e p
+
+-- ---- the invariant of such a loop: k places of c are passed, and the buffer keeps its length
+
+pub record Turning (w : Bool) (f : ℕ → List Claim) (c : ℕ) (l buffer : List ℕ) (n m k : ℕ) : Type 0 where
+  pub turns : k ≤ c
+  pub passed : Passed w l buffer n m (each k f)
+  pub sized : length buffer ≡ length l
+
+pub turn-start : (w : Bool) (f : ℕ → List Claim) (c : ℕ) (l : List ℕ) (n : ℕ) → Turning w f c l l n n 0
+turn-start w f c l n = record { turns = omega arith; passed = pass-start w f l n; sized = refl }
+
+module _ {w : Bool} (f : ℕ → List Claim) {c : ℕ} {l buffer : List ℕ} {n m k : ℕ} (free : Free w l n (each c f)) (t : Turning w f c l buffer n m k) where
+  -- the next place is free
+  pub turn-free : k < c → Free w buffer m (f k)
+  turn-free h = pass-now w f k c l buffer n m h free (t .passed) (t .sized)
+
+  pub turn-step : {after : List ℕ} {r : ℕ} → k < c → Passed w buffer after m r (f k) → length after ≡ length buffer → Turning w f c l after n r (k + 1)
+  turn-step {after} {r} h p e =
+      record { turns = omega arith; passed = pass-more w f k c l buffer after n m r h free (t .passed) p; sized = e ∙ t .sized }
+
+  pub turn-end : c ≤ k → Passed w l buffer n m (each c f)
+  turn-end h = pass-end w f k c l buffer n m (omega (arith, t .turns)) (t .passed)
+
+-- ---- a pass from the buffer's start
+
+pub free-count : (l : List ℕ) (cs : List Claim) → length cs ≤ 1000000 → Free false l 0 cs
+free-count l cs h = record { few = omega arith; room = λ t. absurd (true≢false (sym t)) }
+
+pub free-store : (l : List ℕ) (cs : List Claim) → length cs ≤ 1000000 → 35 * length cs ≤ length l → Free true l 0 cs
+free-store l cs h k = record { few = omega arith; room = λ t. omega arith }
+
+-- counted, then stored
+pub passed-written : (l b after : List ℕ) (m n : ℕ) (cs : List Claim) → Passed false l b 0 m cs → Passed true b after 0 n cs → after ≡ written cs l
+passed-written l b after m n cs p q = q .bytes ∙ ap (λ (x : List ℕ). place x 0 cs) (p .bytes) ∙ place-written l cs

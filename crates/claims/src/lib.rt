@@ -1,1 +1,2 @@
-// The claims of a transfer and of a close (document 01, sections Fail claims, Close and Amounts, outcomes, release).
+// The claims of transfers and closes (document 01, sections Fail claims, Close and Amounts, outcomes, release) as definitions with
+// their laws. They stand in specs/ and proofs/; the code is in the crate passes.

@@ -50,7 +50,7 @@ pub record Fields (t : Transfer) : Type 0 where
   pub par : t .par ≤ 100000000
   pub apart : t .sender ≡ t .receiver → ⊥
 
-fields : (tables : List ℕ) (t : Transfer) → outOfRange tables t ≡ false → Fields t
+pub fields : (tables : List ℕ) (t : Transfer) → outOfRange tables t ≡ false → Fields t
 unfolding outOfRange
 fields tables t e =
     record {

@@ -5,3 +5,4 @@ pub mod Payments
 pub mod Once
 pub mod Theorem
 pub mod Rows
+pub mod Answers

@@ -1,0 +1,189 @@
+-- Posting an accepted transfer keeps the balances sound; before it, the laws of the code that gives the numbers 7 and 8, posts and clears.
+use mathlib.Core.Path.{_≡_, refl, sym, ap, _∙_, subst}
+use mathlib.Core.Bool.{Bool, true, false, not}
+use mathlib.Core.List.{List, [], _∷_, _++_, append-nil}
+use Prim.Native.Nat.{ℕ, zero, suc, _+_, _-_, _≤_, _<_}
+use native.Mathlib.Nat.{add-zero, zero-add, add-suc, suc-add}
+use native.Mathlib.Omega.{arith}
+use lib.ListN.{length, getD, set, drop, replicate, length-set, drop-of-length-le}
+use borrow.Author.Fill.{fill-none, fill-more}
+use borrow.Author.Tests.{lt-ltb, le-ltb, ltb-false, le-leb, ne-eqb, not-false}
+use Rattle.lists.specs.Tests.{and-left, and-right, and-both, cond-true}
+use Rattle.lists.specs.First.{firstOf, numbered, appliesAt, cleared, hit, skip, none}
+use Rattle.records.specs.declared.Transfer.{Transfer}
+use Rattle.book.specs.Book.{Position, InRange, word, position, balanceAt}
+use Rattle.book.specs.Loans.{increasing, decreasing, bySender, byReceiver, Change, unchanged, increase, decrease, changeOf, changed, aboveBalance, pastLimit, loanCauses}
+use Rattle.book.specs.Soundness.{goodBalance, goodBalancesFrom, badBalances}
+use Rattle.book.proofs.Words.{position-word}
+use Rattle.book.proofs.Judged.{sound-balances}
+
+-- ---- the change that a code asks for
+
+module _ (t : Transfer) where
+  change-increase : increasing (t .code) ≡ true → changeOf t ≡ increase (bySender t)
+  unfolding changeOf
+  change-increase e = cond-true _ _ e
+
+  change-decrease : increasing (t .code) ≡ false → decreasing (t .code) ≡ true → changeOf t ≡ decrease (byReceiver t)
+  unfolding changeOf
+  change-decrease e f = rw (e, f)
+
+  change-none : increasing (t .code) ≡ false → decreasing (t .code) ≡ false → changeOf t ≡ unchanged
+  unfolding changeOf
+  change-none e f = rw (e, f)
+
+-- ---- numbers 7 and 8
+
+module _ (balances : List ℕ) (t : Transfer) (w : ℕ) where
+  module _ (e : increasing (t .code) ≡ true) (k : w ≡ word (bySender t)) where
+    not-above : aboveBalance balances (changeOf t) (t .par) ≡ false
+    unfolding aboveBalance
+    not-above = rw (change-increase t e)
+
+    pub increase-past : 9000000000 - t .par < getD balances w 0 → 8 ≡ firstOf (loanCauses balances t)
+    unfolding loanCauses pastLimit balanceAt
+    increase-past h =
+        skip 7 _ not-above
+        (hit 8 _ (rw (change-increase t e, ← k) (lt-ltb 9000000000 (getD balances w 0 + t .par) (omega arith))))
+
+    pub increase-within : t .par ≤ 9000000000 → getD balances w 0 ≤ 9000000000 - t .par → _≡_ {A = ℕ} 0 (firstOf (loanCauses balances t))
+    unfolding loanCauses pastLimit balanceAt
+    increase-within s h =
+        skip 7 _ not-above
+        (skip 8 _ (rw (change-increase t e, ← k) (le-ltb 9000000000 (getD balances w 0 + t .par) (omega arith))) none)
+
+  module _ (e : increasing (t .code) ≡ false) (f : decreasing (t .code) ≡ true) (k : w ≡ word (byReceiver t)) where
+    not-past : pastLimit balances (changeOf t) (t .par) ≡ false
+    unfolding pastLimit
+    not-past = rw (change-decrease t e f)
+
+    pub decrease-above : getD balances w 0 < t .par → 7 ≡ firstOf (loanCauses balances t)
+    unfolding loanCauses aboveBalance balanceAt
+    decrease-above h = hit 7 _ (rw (change-decrease t e f, ← k) (lt-ltb (getD balances w 0) (t .par) h))
+
+    pub decrease-within : t .par ≤ getD balances w 0 → _≡_ {A = ℕ} 0 (firstOf (loanCauses balances t))
+    unfolding loanCauses aboveBalance balanceAt
+    decrease-within h =
+        skip 7 _ (rw (change-decrease t e f, ← k) (le-ltb (getD balances w 0) (t .par) h)) (skip 8 _ not-past none)
+
+pub unchanged-accepted : (balances : List ℕ) (t : Transfer) → increasing (t .code) ≡ false → decreasing (t .code) ≡ false
+    → _≡_ {A = ℕ} 0 (firstOf (loanCauses balances t))
+unfolding loanCauses aboveBalance pastLimit
+unchanged-accepted balances t e f = rw (change-none t e f) (skip 7 _ refl (skip 8 _ refl none))
+
+-- ---- an accepted transfer
+
+module _ (balances : List ℕ) (t : Transfer) (n : firstOf (loanCauses balances t) ≡ 0) where
+  increase-room : increasing (t .code) ≡ true → balanceAt balances (bySender t) + t .par ≤ 9000000000
+  unfolding loanCauses numbered appliesAt pastLimit
+  increase-room e =
+      ltb-false 9000000000 (balanceAt balances (bySender t) + t .par)
+      (subst (λ (c : Change). pastLimit balances c (t .par) ≡ false) (change-increase t e) (cleared 8 (loanCauses balances t) refl n))
+
+  decrease-room : increasing (t .code) ≡ false → decreasing (t .code) ≡ true → t .par ≤ balanceAt balances (byReceiver t)
+  unfolding loanCauses numbered appliesAt aboveBalance
+  decrease-room e f =
+      ltb-false (balanceAt balances (byReceiver t)) (t .par)
+      (subst (λ (c : Change). aboveBalance balances c (t .par) ≡ false) (change-decrease t e f) (cleared 7 (loanCauses balances t) refl n))
+
+  pub increase-fits : (w : ℕ) → increasing (t .code) ≡ true → w ≡ word (bySender t) → getD balances w 0 + t .par ≤ 9000000000
+  unfolding balanceAt
+  increase-fits w e k = rw k (increase-room e)
+
+  pub decrease-fits : (w : ℕ) → increasing (t .code) ≡ false → decreasing (t .code) ≡ true → w ≡ word (byReceiver t) → t .par ≤ getD balances w 0
+  unfolding balanceAt
+  decrease-fits w e f k = rw k (decrease-room e f)
+
+-- ---- the balances after it
+
+module _ (balances : List ℕ) (t : Transfer) where
+  pub posted-increase : (w : ℕ) → increasing (t .code) ≡ true → w ≡ word (bySender t)
+      → set balances w (getD balances w 0 + t .par) ≡ changed balances (changeOf t) (t .par)
+  unfolding changed balanceAt
+  posted-increase w e k = rw (change-increase t e, ← k)
+
+  pub posted-decrease : (w : ℕ) → increasing (t .code) ≡ false → decreasing (t .code) ≡ true → w ≡ word (byReceiver t)
+      → set balances w (getD balances w 0 - t .par) ≡ changed balances (changeOf t) (t .par)
+  unfolding changed balanceAt
+  posted-decrease w e f k = rw (change-decrease t e f, ← k)
+
+  pub posted-none : increasing (t .code) ≡ false → decreasing (t .code) ≡ false → balances ≡ changed balances (changeOf t) (t .par)
+  unfolding changed
+  posted-none e f = rw (change-none t e f)
+
+-- ---- balances set to zero, in order
+
+pub record Clearing (balances₀ balances : List ℕ) (i : ℕ) : Type 0 where
+  pub small : i ≤ length balances₀
+  pub sized : length balances ≡ length balances₀
+  pub stored : balances ≡ replicate i 0 ++ drop i balances₀
+
+pub clear-start : (balances : List ℕ) → Clearing balances balances 0
+clear-start balances = record { small = omega arith; sized = refl; stored = fill-none balances 0 }
+
+pub clear-step : {balances₀ balances : List ℕ} {i : ℕ} → i < length balances → Clearing balances₀ balances i
+    → Clearing balances₀ (set balances i 0) (i + 1)
+clear-step {balances₀} {balances} {i} h k =
+    record {
+      small = omega (arith, k .sized);
+      sized = length-set balances i 0 ∙ k .sized;
+      stored = ap (λ (l : List ℕ). set l i 0) (k .stored) ∙ fill-more i 0 balances₀ (omega (arith, k .sized));
+    }
+
+pub clear-end : {balances₀ balances : List ℕ} {i : ℕ} → length balances ≤ i → Clearing balances₀ balances i
+    → balances ≡ replicate (length balances₀) 0
+clear-end {balances₀} {balances} {i} h k =
+    let e : i ≡ length balances₀ = omega (arith, k .sized, k .small) in
+    k .stored ∙ rw (drop-of-length-le balances₀ {i = i} (omega arith)) (append-nil (replicate i 0) ∙ ap (λ (n : ℕ). replicate n 0) e)
+
+-- ---- the balances stay sound
+
+good-set : (w : ℕ) (pars : List ℕ) (k v : ℕ) → goodBalancesFrom w pars ≡ true → goodBalance (position (w + k)) v ≡ true
+    → goodBalancesFrom w (set pars k v) ≡ true
+unfolding goodBalancesFrom
+good-set w [] k v g e = refl
+good-set w (par ∷ pars) zero v g e =
+    and-both (subst (λ (n : ℕ). goodBalance (position n) v ≡ true) (add-zero w) e) (and-right (goodBalance (position w) par) _ g)
+good-set w (par ∷ pars) (suc k) v g e =
+    and-both (and-left (goodBalance (position w) par) (goodBalancesFrom (suc w) pars) g)
+    (good-set (suc w) pars k v (and-right (goodBalance (position w) par) _ g)
+    (subst (λ (n : ℕ). goodBalance (position n) v ≡ true) (add-suc w k ∙ sym (suc-add w k)) e))
+
+-- one position of two accounts written with a balance that is not too large
+written : (balances : List ℕ) (p : Position) (v : ℕ) → badBalances balances ≡ false → InRange p → (p .lender ≡ p .borrower → ⊥) → v ≤ 9000000000
+    → badBalances (set balances (word p) v) ≡ false
+unfolding badBalances goodBalance
+written balances p v g r n h =
+    ap not
+    (good-set 0 balances (word p) v (not-false _ g)
+    (subst (λ (q : Position). goodBalance q v ≡ true) (sym (position-word p r) ∙ ap position (sym (zero-add (word p))))
+    (and-both (le-leb v 9000000000 h) (rw (ne-eqb (p .lender) (p .borrower) n)))))
+
+pub posted-length : (balances : List ℕ) (t : Transfer) → length (changed balances (changeOf t) (t .par)) ≡ length balances
+unfolding changed
+posted-length balances t = go (changeOf t)
+  where
+    go : (c : Change) → length (changed balances c (t .par)) ≡ length balances
+    go unchanged = refl
+    go (increase p) = length-set balances (word p) _
+    go (decrease p) = length-set balances (word p) _
+
+module _ (balances : List ℕ) (t : Transfer) (l : length balances ≡ 4096) (g : badBalances balances ≡ false)
+    (n : firstOf (loanCauses balances t) ≡ 0) (s : t .sender < 16) (r : t .receiver < 16) (y : t .security < 16)
+    (d : t .sender ≡ t .receiver → ⊥) where
+  pub posted-sound : badBalances (changed balances (changeOf t) (t .par)) ≡ false
+  unfolding changed bySender byReceiver
+  posted-sound = go (increasing (t .code)) refl (decreasing (t .code)) refl
+    where
+      after : Change → Type 0
+      after c = badBalances (changed balances c (t .par)) ≡ false
+
+      go : (a : Bool) → increasing (t .code) ≡ a → (b : Bool) → decreasing (t .code) ≡ b → after (changeOf t)
+      go true e b f =
+          subst after (sym (change-increase t e))
+          (written balances (bySender t) _ g (record { security = y; lender = s; borrower = r }) d (increase-room balances t n e))
+      go false e true f =
+          let range : InRange (byReceiver t) = record { security = y; lender = r; borrower = s } in
+          let small = sound-balances balances l g .small (byReceiver t) range in
+          subst after (sym (change-decrease t e f)) (written balances (byReceiver t) _ g range (λ q. d (sym q)) (omega arith))
+      go false e false f = subst after (sym (change-none t e f)) g

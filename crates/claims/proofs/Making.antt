@@ -1,0 +1,68 @@
+-- One claim as the code makes and stores it: its fields gathered, and its record put into a part of the buffer.
+use mathlib.Core.Path.{_≡_, sym, ap, _∙_}
+use mathlib.Core.List.{List, [], _++_, append-nil}
+use Prim.Native.Nat.{ℕ, _+_, _-_, _*_, _≤_}
+use native.Mathlib.Nat.{add-zero}
+use native.Mathlib.Omega.{arith}
+use lib.ListN.{length, take, drop, getD, length-drop, drop-of-length-le}
+use lib.Seq.{take-all, drop-drop, getD-take, getD-drop}
+use Rattle.lists.specs.Put.{put}
+use Rattle.records.specs.declared.Cents.{Cents}
+use Rattle.records.specs.declared.Claim.{Claim}
+use Rattle.records.specs.declared.Wrote.{Wrote}
+use Rattle.records.specs.MessageRecords.{claimKind, claimValues, size, Writing, writing, wroteNumber}
+use Rattle.records.proofs.Answers.{wrote-whole}
+use Rattle.securities.specs.Securities.{securityOf, typeOf, rowOf}
+use Rattle.claims.specs.Amounts.{centsOn, amount, outcomeOf, releaseOf, slotOf, claimOn}
+use Rattle.claims.specs.Written.{claimBytes}
+use Rattle.claims.specs.Passes.{claim-length}
+
+-- the first word of a security is its type
+pub type-word : (tables : List ℕ) (s : ℕ) → getD tables (114 * s) 0 ≡ typeOf (securityOf tables s)
+unfolding typeOf securityOf
+type-word tables s =
+    sym (getD-take 114 (drop (114 * s) tables) 0 0 (omega arith) ∙ getD-drop (114 * s) tables 0 0 ∙ ap (λ (k : ℕ). getD tables k 0) (add-zero (114 * s)))
+
+-- ---- the fields
+
+module _ (calendar tables row : List ℕ) (day number security payee payer par claimType index : ℕ) where
+  pub made : {interest principal : Cents} {outcome release slot : ℕ}
+      → interest .0 ≡ centsOn par (getD row 3 0) → principal .0 ≡ centsOn par (getD row 4 0)
+      → outcome ≡ outcomeOf claimType payer (rowOf index row) (interest .0) (principal .0)
+      → release ≡ releaseOf calendar claimType day (rowOf index row) outcome
+      → slot ≡ slotOf (getD tables (114 * security) 0) claimType day (rowOf index row) outcome
+      → _≡_ {A = Claim}
+      (record {
+        «claim_type» = claimType;
+        outcome = outcome;
+        payer = payer;
+        payee = payee;
+        security = security;
+        row = index;
+        transfer = number;
+        interest = interest;
+        principal = principal;
+        release = release;
+        slot = slot;
+      })
+      (claimOn calendar tables day number (record { security = security; payee = payee; payer = payer }) par claimType (rowOf index row))
+  unfolding claimOn amount rowOf
+  made i p o r s = rw (← type-word tables security, ← i, ← p, ← o, ← r, ← s)
+
+-- ---- the record
+
+-- a claim written to the part of a buffer from its record place on is put there
+pub stored-claim : (l o : List ℕ) (n : ℕ) (c : Claim) (r : Wrote) → 35 * n + 35 ≤ length l
+    → _≡_ {A = Writing} (record { number = wroteNumber r; buffer = o })
+    (writing claimKind (claimValues c) [] (take (length l - 35 * n) (drop (35 * n) l)))
+    → take (35 * n) l ++ (o ++ drop (length l - 35 * n) (drop (35 * n) l)) ≡ put l (35 * n) (claimBytes c)
+unfolding put claimBytes size claimKind
+stored-claim l o n c r h e =
+    let whole : take (length l - 35 * n) (drop (35 * n) l) ≡ drop (35 * n) l
+    = take-all (length l - 35 * n) (drop (35 * n) l) (omega (arith, length-drop (35 * n) l)) in
+    let none : drop (length l - 35 * n) (drop (35 * n) l) ≡ []
+    = drop-of-length-le (drop (35 * n) l) {i = length l - 35 * n} (omega (arith, length-drop (35 * n) l)) in
+    let bytes : o ≡ claimBytes c ++ drop (35 * n + 35) l
+    = wrote-whole claimKind (claimValues c) [] (drop (35 * n) l) {r = r} (rw whole at e) (omega (arith, length-drop (35 * n) l)) .1
+    ∙ ap (λ (x : List ℕ). claimBytes c ++ x) (drop-drop 35 (35 * n) l) in
+    rw (none, append-nil o, bytes, claim-length c)

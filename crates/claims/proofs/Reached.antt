@@ -1,0 +1,440 @@
+-- The claims of a failed transfer, row by row: in sound tables the rows that the day has reached come first, so the eligible rows are
+-- those from a number on that have a Beneficiary Date after the Contract Date.
+use mathlib.Core.Path.{_≡_, refl, sym, ap, ap₂, _∙_}
+use mathlib.Core.Bool.{Bool, true, false, cond, not, _&&_, false≢true}
+use mathlib.Core.List.{List, [], _∷_, _++_, append-nil, append-assoc, map}
+use Prim.Native.Nat.{ℕ, zero, suc, _+_, _-_, _*_, _≤_, _<_}
+use native.Mathlib.Nat.{add-zero, zero-add, not-suc-le-zero, le-of-suc-le-suc, sub-zero, zero-sub}
+use native.Mathlib.Omega.{arith}
+use lib.Dec.{eqb, ltb, leb}
+use lib.ListN.{length, take, drop, getD, length-drop, length-map}
+use lib.Seq.{take-nil, take-suc, drop-drop, getD-take, getD-drop, length-take-le}
+use borrow.Author.Tests.{ltb-true, leb-true, leb-false, eqb-true, lt-ltb, le-ltb, lt-leb, eq-eqb, ne-eqb}
+use Rattle.lists.specs.Tests.{and-left, and-right, and-both, below-at}
+use Rattle.lists.specs.All.{all}
+use Rattle.lists.specs.Fields.{part, part-take}
+use Rattle.lists.specs.Select.{select, lastOf, all-drop}
+use Rattle.lists.specs.Tabulate.{each, eachOf}
+use Rattle.days.specs.Days.{isDate, lastOpen}
+use Rattle.records.specs.declared.Claim.{Claim}
+use Rattle.records.specs.declared.Transfer.{Transfer}
+use Rattle.securities.specs.Securities.{securityOf, typeOf, frequencyOf, Row, rowOf, rowsFrom, rowsOf, isEmpty, isFilled, filledRows, goodRow, goodRows, goodSecurity, goodTables}
+use Rattle.securities.proofs.Sound.{Good, good-row}
+use Rattle.tags.specs.declared.Tag.{Tag}
+use Rattle.tags.specs.declared.Tag.the-variants.{On}
+use Rattle.tags.specs.ContractDateTag.{tagged, contractDate}
+use Rattle.days.specs.declared.Date.{Date}
+use Rattle.claims.specs.Amounts.{failType, claimOn}
+use Rattle.claims.specs.Fails.{maximumNumbers, maximumFor, eligibleIn, eligible, Due, due, fails, dues, transferParties, transferClaims}
+use Rattle.claims.specs.Passes.{Free}
+use Rattle.claims.proofs.Making.{type-word}
+use Rattle.claims.specs.Reached.{rowAt, leading, isReached, reachedRows, failClaim, Failing}
+
+-- ---- a row in its place
+
+-- a row is its seven words alone
+row-words : (i : ℕ) (words : List ℕ) → rowOf i (take 7 words) ≡ rowOf i words
+unfolding rowOf
+row-words i words =
+    rw (getD-take 7 words 0 0 (omega arith), getD-take 7 words 1 0 (omega arith), getD-take 7 words 2 0 (omega arith), getD-take 7 words 3 0 (omega arith), getD-take 7 words 4 0 (omega arith), getD-take 7 words 5 0 (omega arith), getD-take 7 words 6 0 (omega arith))
+
+rows-length : (n i : ℕ) (words : List ℕ) → length (rowsFrom n i words) ≡ n
+unfolding rowsFrom
+rows-length zero i words = refl
+rows-length (suc n) i words = ap suc (rows-length n (suc i) (drop 7 words))
+
+rows-from-at : (n k : ℕ) (words : List ℕ) (i : ℕ) (d : Row) → i < n → getD (rowsFrom n k words) i d ≡ rowOf (k + i) (drop (7 * i) words)
+unfolding rowsFrom
+rows-from-at zero k words i d h = absurd (not-suc-le-zero h)
+rows-from-at (suc n) k words zero d h = ap (λ (x : ℕ). rowOf x words) (sym (add-zero k))
+rows-from-at (suc n) k words (suc i) d h =
+    let a : suc k + i ≡ k + suc i = omega arith in
+    let b : 7 + 7 * i ≡ 7 * suc i = omega arith in
+    rows-from-at n (suc k) (drop 7 words) i d (omega arith)
+    ∙ ap₂ rowOf a (drop-drop (7 * i) 7 words ∙ ap (λ (x : ℕ). drop x words) b)
+
+pub rows-of-at : (tables : List ℕ) (s i : ℕ) (d : Row) → i < 16 → getD (rowsOf (securityOf tables s)) i d ≡ rowAt tables s i
+unfolding rowsOf securityOf rowAt
+rows-of-at tables s i d h =
+    let from = drop (114 * s) tables in
+    let a : 114 * s + (2 + 7 * i) ≡ 114 * s + 2 + 7 * i = omega arith in
+    rows-from-at 16 0 (drop 2 (take 114 from)) i d h
+    ∙ ap (λ (k : ℕ). rowOf k (drop (7 * i) (drop 2 (take 114 from)))) (zero-add i)
+    ∙ ap (λ (words : List ℕ). rowOf i words) (drop-drop (7 * i) 2 (take 114 from))
+    ∙ sym (row-words i (drop (2 + 7 * i) (take 114 from)))
+    ∙ ap (λ (words : List ℕ). rowOf i words) (part-take (2 + 7 * i) 7 114 from (omega arith) ∙ ap (take 7) (drop-drop (2 + 7 * i) (114 * s) tables))
+    ∙ ap (λ (k : ℕ). rowOf i (part k 7 tables)) a
+
+pub length-rows-of : (tables : List ℕ) (s : ℕ) → length (rowsOf (securityOf tables s)) ≡ 16
+unfolding rowsOf
+length-rows-of tables s = rows-length 16 0 (drop 2 (securityOf tables s))
+
+pub beneficiary-word : (tables : List ℕ) (s i : ℕ) → getD tables (114 * s + 2 + 7 * i + 1) 0 ≡ rowAt tables s i .beneficiaryDate
+unfolding rowAt rowOf
+beneficiary-word tables s i =
+    sym (getD-take 7 (drop (114 * s + 2 + 7 * i) tables) 1 0 (omega arith) ∙ getD-drop (114 * s + 2 + 7 * i) tables 1 0)
+
+pub frequency-word : (tables : List ℕ) (s : ℕ) → getD tables (114 * s + 1) 0 ≡ frequencyOf (securityOf tables s)
+unfolding frequencyOf securityOf
+frequency-word tables s = sym (getD-take 114 (drop (114 * s) tables) 1 0 (omega arith) ∙ getD-drop (114 * s) tables 1 0)
+
+-- ---- unused securities
+
+zero-at : (words : List ℕ) (k : ℕ) → all (λ w. eqb w 0) words ≡ true → eqb (getD words k 0) 0 ≡ true
+unfolding all
+zero-at [] k t = refl
+zero-at (w ∷ ws) zero t = and-left (eqb w 0) (all (λ w. eqb w 0) ws) t
+zero-at (w ∷ ws) (suc k) t = zero-at ws k (and-right (eqb w 0) (all (λ w. eqb w 0) ws) t)
+
+zeros-row : (i : ℕ) (words : List ℕ) → all (λ w. eqb w 0) words ≡ true → isEmpty (rowOf i words) ≡ true
+unfolding rowOf isEmpty
+zeros-row i words t =
+    rw (zero-at words 0 t, zero-at words 1 t, zero-at words 2 t, zero-at words 3 t, zero-at words 4 t, zero-at words 5 t, zero-at words 6 t)
+
+zeros-empty : (n i : ℕ) (words : List ℕ) → all (λ w. eqb w 0) words ≡ true → all isEmpty (rowsFrom n i words) ≡ true
+unfolding all rowsFrom
+zeros-empty zero i words t = refl
+zeros-empty (suc n) i words t = and-both (zeros-row i words t) (zeros-empty n (suc i) (drop 7 words) (all-drop _ 7 words t))
+
+-- ---- the rules of a security of sound tables
+
+-- empty rows keep the rules
+good-empty : (last a b : ℕ) (rows : List Row) → all isEmpty rows ≡ true → goodRows last a b rows ≡ true
+unfolding goodRows all
+good-empty last a b [] t = refl
+good-empty last a b (row ∷ rows) t =
+    rw (and-left (isEmpty row) (all isEmpty rows) t) (and-right (isEmpty row) (all isEmpty rows) t)
+
+module _ (calendar tables : List ℕ) (s : ℕ) (t : goodTables calendar tables ≡ true) (h : s < 16) where
+  good-security : goodSecurity (lastOpen calendar) (securityOf tables s) ≡ true
+  unfolding goodTables
+  good-security = below-at (λ s. goodSecurity (lastOpen calendar) (securityOf tables s)) 16 t s h
+
+  good-rows : goodRows (lastOpen calendar) 0 0 (rowsOf (securityOf tables s)) ≡ true
+  unfolding goodSecurity
+  good-rows = go (eqb (typeOf words) 0) good-security
+    where
+      words : List ℕ
+      words = securityOf tables s
+
+      go : (b : Bool)
+          → cond b (all (λ w. eqb w 0) words)
+          (leb (typeOf words) 4 && leb 1 (frequencyOf words) && leb (frequencyOf words) 4 && goodRows (lastOpen calendar) 0 0 (rowsOf words)) ≡ true
+          → goodRows (lastOpen calendar) 0 0 (rowsOf words) ≡ true
+      go true e = unfold rowsOf in good-empty (lastOpen calendar) 0 0 _ (zeros-empty 16 0 (drop 2 words) (all-drop _ 2 words e))
+      go false e = search (and-left, and-right, e) depth 8
+
+  pub small-frequency : getD tables (114 * s + 1) 0 ≤ 4
+  unfolding goodSecurity
+  small-frequency = rw (frequency-word tables s) (go (eqb (typeOf words) 0) good-security)
+    where
+      words : List ℕ
+      words = securityOf tables s
+
+      go : (b : Bool)
+          → cond b (all (λ w. eqb w 0) words)
+          (leb (typeOf words) 4 && leb 1 (frequencyOf words) && leb (frequencyOf words) 4 && goodRows (lastOpen calendar) 0 0 (rowsOf words)) ≡ true
+          → frequencyOf words ≤ 4
+      go true e = unfold frequencyOf in let z = eqb-true (getD words 1 0) 0 (zero-at words 1 e) in omega arith
+      go false e = leb-true (frequencyOf words) 4 (search (and-left, and-right, e) depth 8)
+
+-- ---- the rows that the day has reached come first
+
+leading-within : {A : Type 0} (p : A → Bool) (xs : List A) → leading p xs ≤ length xs
+unfolding leading
+leading-within p [] = omega arith
+leading-within p (x ∷ xs) = go (p x) (leading-within p xs)
+  where
+    go : (b : Bool) → leading p xs ≤ length xs → cond b (suc (leading p xs)) 0 ≤ length (x ∷ xs)
+    go true h = omega arith
+    go false h = omega arith
+
+-- empty rows hold no filled one
+none-filled : (rows : List Row) → all isEmpty rows ≡ true → select isFilled rows ≡ []
+unfolding all select isFilled
+none-filled [] t = refl
+none-filled (row ∷ rows) t =
+    rw (and-left (isEmpty row) (all isEmpty rows) t) (none-filled rows (and-right (isEmpty row) (all isEmpty rows) t))
+
+-- the Beneficiary Date of an empty row is 0, that of a good row is not
+empty-date : (row : Row) → isEmpty row ≡ true → row .beneficiaryDate ≡ 0
+unfolding isEmpty
+empty-date row e = eqb-true (row .beneficiaryDate) 0 (search (and-left, and-right, e) depth 12)
+
+good-date : (last : ℕ) (row : Row) → goodRow last row ≡ true → 0 < row .beneficiaryDate
+unfolding isDate
+good-date last row e =
+    let h = leb-true 20000101 (row .beneficiaryDate) (and-left _ _ (good-row last row e .beneficiary-date)) in
+    omega arith
+
+module _ (last day : ℕ) where
+  -- rows on or before the day, of the filled ones
+  dated : List Row → List Row
+  dated rows = select (λ row. leb (row .beneficiaryDate) day) (select isFilled rows)
+
+  -- what follows a row that is good
+  abbrev Follows : Row → List Row → Type 0
+  Follows row rows = goodRows last (row .recordDate) (row .beneficiaryDate) rows ≡ true
+
+  -- a row of good rows: empty, and so are those behind it; or good and later than the row before
+  data Case (b : ℕ) (row : Row) (rows : List Row) : Type 0 where
+    empty : isEmpty row ≡ true → all isEmpty rows ≡ true → Case b row rows
+    filled : isEmpty row ≡ false → goodRow last row ≡ true → b < row .beneficiaryDate → Follows row rows → Case b row rows
+
+  cases : (a b : ℕ) (row : Row) (rows : List Row) → goodRows last a b (row ∷ rows) ≡ true → Case b row rows
+  unfolding goodRows
+  cases a b row rows e = go (isEmpty row) refl e
+    where
+      go : (c : Bool) → isEmpty row ≡ c
+          → cond c (all isEmpty rows)
+          (goodRow last row && ltb a (row .recordDate) && ltb b (row .beneficiaryDate) && goodRows last (row .recordDate) (row .beneficiaryDate) rows) ≡ true
+          → Case b row rows
+      go true q e = empty q e
+      go false q e =
+          filled q (search (and-left, and-right, e) depth 8) (ltb-true b (row .beneficiaryDate) (search (and-left, and-right, e) depth 8))
+          (search (and-left, and-right, e) depth 8)
+
+  -- nothing behind a later date is dated
+  none-dated : (a b : ℕ) (rows : List Row) → goodRows last a b rows ≡ true → day < b → dated rows ≡ []
+  unfolding dated select isFilled
+  none-dated a b [] e h = refl
+  none-dated a b (row ∷ rows) e h = go (cases a b row rows e) (none-dated (row .recordDate) (row .beneficiaryDate) rows)
+    where
+      go : Case b row rows → (Follows row rows → day < row .beneficiaryDate → dated rows ≡ []) → dated (row ∷ rows) ≡ []
+      go (empty q n) ih = rw (q, none-filled rows n)
+      go (filled q g l f) ih = rw (q, lt-leb (row .beneficiaryDate) day (omega arith)) (ih f (omega arith))
+
+  -- the dated rows are the leading ones that are reached, and each of these is good
+  dated-leading : (a b : ℕ) (rows : List Row) → goodRows last a b rows ≡ true → dated rows ≡ take (leading (isReached day) rows) rows
+  unfolding dated select isFilled leading isReached
+  dated-leading a b [] e = refl
+  dated-leading a b (row ∷ rows) e = go (cases a b row rows e) (dated-leading (row .recordDate) (row .beneficiaryDate) rows)
+    where
+      later : (c : Bool) → leb (row .beneficiaryDate) day ≡ c → Follows row rows → (Follows row rows → dated rows ≡ take (leading (isReached day) rows) rows)
+          → cond c (row ∷ dated rows) (dated rows) ≡ take (cond c (suc (leading (isReached day) rows)) 0) (row ∷ rows)
+      later true q f ih = ap (_∷_ row) (ih f)
+      later false q f ih = none-dated (row .recordDate) (row .beneficiaryDate) rows f (leb-false (row .beneficiaryDate) day q)
+
+      go : Case b row rows → (Follows row rows → dated rows ≡ take (leading (isReached day) rows) rows)
+          → dated (row ∷ rows) ≡ take (leading (isReached day) (row ∷ rows)) (row ∷ rows)
+      go (empty q n) ih = rw (q, none-filled rows n, le-ltb 0 (row .beneficiaryDate) (omega (arith, empty-date row q)))
+      go (filled q g l f) ih = rw (q, lt-ltb 0 (row .beneficiaryDate) (good-date last row g)) (later (leb (row .beneficiaryDate) day) refl f ih)
+
+  leading-good : (a b : ℕ) (rows : List Row) → goodRows last a b rows ≡ true → (i : ℕ) (d : Row) → i < leading (isReached day) rows
+      → goodRow last (getD rows i d) ≡ true
+  unfolding leading isReached
+  leading-good a b [] e i d h = absurd (not-suc-le-zero h)
+  leading-good a b (row ∷ rows) e i d h =
+      go (cases a b row rows e) i h (leading-good (row .recordDate) (row .beneficiaryDate) rows)
+    where
+      behind : (c : Bool) (i : ℕ) → i < cond c (suc (leading (isReached day) rows)) 0 → goodRow last row ≡ true
+          → ((j : ℕ) → j < leading (isReached day) rows → goodRow last (getD rows j d) ≡ true) → goodRow last (getD (row ∷ rows) i d) ≡ true
+      behind false i h g ih = absurd (not-suc-le-zero h)
+      behind true zero h g ih = g
+      behind true (suc i) h g ih = ih i (le-of-suc-le-suc h)
+
+      go : Case b row rows → (i : ℕ) → i < leading (isReached day) (row ∷ rows)
+          → (Follows row rows → (j : ℕ) (d : Row) → j < leading (isReached day) rows → goodRow last (getD rows j d) ≡ true)
+          → goodRow last (getD (row ∷ rows) i d) ≡ true
+      go (empty q n) i h ih =
+          absurd (not-suc-le-zero (rw (le-ltb 0 (row .beneficiaryDate) (omega (arith, empty-date row q))) at h))
+      go (filled q g l f) i h ih = behind (isReached day row) i h g (λ j k. ih f j d k)
+
+-- ---- claims, one row after the other
+
+drop-take : {A : Type 0} (k n : ℕ) (xs : List A) → drop k (take n xs) ≡ take (n - k) (drop k xs)
+drop-take zero n xs = ap (λ (m : ℕ). take m xs) (sym (sub-zero n))
+drop-take (suc k) zero xs = sym (ap (λ (m : ℕ). take m (drop (suc k) xs)) (zero-sub (suc k)))
+drop-take (suc k) (suc n) [] = sym (take-nil (suc n - suc k))
+drop-take (suc k) (suc n) (x ∷ xs) =
+    let e : n - k ≡ suc n - suc k = omega arith in
+    drop-take k n xs ∙ ap (λ (m : ℕ). take m (drop k xs)) e
+
+-- a claim for each row that passes a test
+select-each : {A B : Type 0} (p : A → Bool) (f : A → B) (xs : List A) → map f (select p xs) ≡ eachOf xs (λ x. cond (p x) (f x ∷ []) [])
+unfolding select eachOf
+select-each p f [] = refl
+select-each p f (x ∷ xs) = go (p x) (select-each p f xs)
+  where
+    go : (b : Bool) → map f (select p xs) ≡ eachOf xs (λ x. cond (p x) (f x ∷ []) [])
+        → map f (cond b (x ∷ select p xs) (select p xs)) ≡ cond b (f x ∷ []) [] ++ eachOf xs (λ x. cond (p x) (f x ∷ []) [])
+    go true ih = ap (_∷_ (f x)) ih
+    go false ih = ih
+
+module _ {A B : Type 0} (f : A → List B) where
+  each-of-append : (xs ys : List A) → eachOf (xs ++ ys) f ≡ eachOf xs f ++ eachOf ys f
+  unfolding eachOf
+  each-of-append [] ys = refl
+  each-of-append (x ∷ xs) ys = ap (λ (r : List B). f x ++ r) (each-of-append xs ys) ∙ sym (append-assoc (f x) (eachOf xs f) (eachOf ys f))
+
+  -- a run for each of the first n elements is a run for each place below n
+  each-of-take : (xs : List A) (d : A) (n : ℕ) → n ≤ length xs → eachOf (take n xs) f ≡ each n (λ j. f (getD xs j d))
+  unfolding each
+  each-of-take xs d zero h = unfold eachOf in refl
+  each-of-take xs d (suc n) h =
+      ap (λ (l : List A). eachOf l f) (take-suc xs n d h)
+      ∙ each-of-append (take n xs) (getD xs n d ∷ [])
+      ∙ ap₂ (λ (r s : List B). r ++ s) (each-of-take xs d n (omega arith)) (unfold eachOf in append-nil (f (getD xs n d)))
+
+each-agree : {B : Type 0} (f g : ℕ → List B) (n : ℕ) → ((j : ℕ) → j < n → f j ≡ g j) → each n f ≡ each n g
+unfolding each
+each-agree f g zero h = refl
+each-agree f g (suc n) h = ap₂ (λ (r s : List _). r ++ s) (each-agree f g n (λ j k. h j (omega arith))) (h n (omega arith))
+
+map-map : {A B C : Type 0} (f : B → C) (g : A → B) (xs : List A) → map f (map g xs) ≡ map (λ x. f (g x)) xs
+map-map f g [] = refl
+map-map f g (x ∷ xs) = ap (_∷_ (f (g x))) (map-map f g xs)
+
+-- ---- the claims of a transfer
+
+module _ (calendar tables : List ℕ) (day number : ℕ) (t : Transfer) where
+  pub none-by-code : (tag : Tag) → (t .code ≡ 0 → ⊥) → transferClaims calendar tables day number t tag ≡ []
+  unfolding transferClaims dues fails
+  none-by-code tag h = rw (ne-eqb (t .code) 0 h)
+
+  pub none-untagged : (tag : Tag) → tagged tag ≡ false → transferClaims calendar tables day number t tag ≡ []
+  unfolding transferClaims dues fails
+  none-untagged tag h = rw h (go (eqb (t .code) 0))
+    where
+      claim : Due → Claim
+      claim d = claimOn calendar tables day number (transferParties t) (t .par) (d .claimType) (d .row)
+
+      go : (b : Bool) → map claim (cond (b && false) (map (due failType) (eligible tables day t tag)) []) ≡ []
+      go true = refl
+      go false = refl
+
+  -- a failed transfer: a claim on each of its eligible rows
+  fail-claims : (date : Date) → t .code ≡ 0
+      → transferClaims calendar tables day number t (On date)
+      ≡ map (claimOn calendar tables day number (transferParties t) (t .par) failType)
+      (select (λ row. ltb (date .0) (row .beneficiaryDate))
+      (lastOf (maximumFor maximumNumbers (typeOf (securityOf tables (t .security))) (frequencyOf (securityOf tables (t .security))))
+      (select (λ row. leb (row .beneficiaryDate) day) (filledRows tables (t .security)))))
+  unfolding transferClaims dues fails tagged eligible eligibleIn contractDate
+  fail-claims date z = rw (eq-eqb (t .code) 0 z) (map-map _ (due failType) (eligible tables day t (On date)))
+
+  fail-select : (date : Date) (l : List Row)
+      → map (claimOn calendar tables day number (transferParties t) (t .par) failType) (select (λ row. ltb (date .0) (row .beneficiaryDate)) l)
+      ≡ eachOf l (failClaim calendar tables day number t (date .0))
+  unfolding failClaim
+  fail-select date l = select-each (λ row. ltb (date .0) (row .beneficiaryDate)) (claimOn calendar tables day number (transferParties t) (t .par) failType) l
+
+  module _ (sound : goodTables calendar tables ≡ true) (held : t .security < 16) where
+    rows : List Row
+    rows = rowsOf (securityOf tables (t .security))
+
+    length-rows : length rows ≡ 16
+    unfolding rows
+    length-rows = length-rows-of tables (t .security)
+
+    pub few-reached : reachedRows tables (t .security) day ≤ 16
+    unfolding reachedRows rows
+    few-reached = omega (arith, leading-within (isReached day) rows, length-rows)
+
+    -- a row that the day has reached keeps the rules
+    reached-good : (i : ℕ) → i < reachedRows tables (t .security) day → Good (lastOpen calendar) (rowAt tables (t .security) i)
+    unfolding reachedRows
+    reached-good i h =
+        let row = rowAt tables (t .security) i in
+        let g = leading-good (lastOpen calendar) day 0 0 _ (good-rows calendar tables (t .security) sound held) i row h in
+        good-row (lastOpen calendar) row (rw (rows-of-at tables (t .security) i row (omega (arith, few-reached))) at g)
+
+    pub failing : {n : ℕ} → n ≡ reachedRows tables (t .security) day → length calendar ≡ 480 → length tables ≡ 1824 → t .sender < 16
+        → Failing calendar tables t n
+    failing e c l p =
+        rw e record {
+          months = c;
+          words = l;
+          held = held;
+          paying = p;
+          rows = few-reached;
+          interest = λ i h. reached-good i h .interest;
+          principal = λ i h. reached-good i h .principal;
+        }
+
+    -- the last rows, up to a maximum number, of those on or before the day
+    last-reached : (maximum n k : ℕ) → n ≡ reachedRows tables (t .security) day → k ≡ n - maximum
+        → lastOf maximum (select (λ row. leb (row .beneficiaryDate) day) (filledRows tables (t .security))) ≡ take (n - k) (drop k rows)
+    unfolding lastOf filledRows reachedRows rows dated
+    last-reached maximum n k e q =
+        let first : select (λ row. leb (row .beneficiaryDate) day) (filledRows tables (t .security)) ≡ take n rows
+        = dated-leading (lastOpen calendar) day 0 0 rows (good-rows calendar tables (t .security) sound held) ∙ ap (λ (m : ℕ). take m rows) (sym e) in
+        let long : length (take n rows) ≡ n = length-take-le n rows (omega (arith, leading-within (isReached day) rows)) in
+        rw (first, long, ← q) (drop-take k n rows)
+
+    row-behind : (k j : ℕ) (d : Row) → k + j < 16 → getD (drop k rows) j d ≡ rowAt tables (t .security) (k + j)
+    unfolding rows
+    row-behind k j d h = getD-drop k rows j d ∙ rows-of-at tables (t .security) (k + j) d h
+
+    -- the claims of a failed transfer: one row after the other, from the first of the last ones on
+    pub fail-each : {tag : Tag} {date : Date} {n m k : ℕ} → tag ≡ On date → t .code ≡ 0 → n ≡ reachedRows tables (t .security) day
+        → m ≡ maximumFor maximumNumbers (getD tables (114 * t .security) 0) (getD tables (114 * t .security + 1) 0) → k ≡ n - m
+        → transferClaims calendar tables day number t tag
+        ≡ each (n - k) (λ j. failClaim calendar tables day number t (date .0) (rowAt tables (t .security) (k + j)))
+    fail-each {tag} {date} {n} {m} {k} g z e o q =
+        let here = rowAt tables (t .security) 0 in
+        let long : n - k ≤ length (drop k rows) = omega (arith, length-drop k rows, length-rows, few-reached) in
+        let most : m ≡ maximumFor maximumNumbers (typeOf (securityOf tables (t .security))) (frequencyOf (securityOf tables (t .security)))
+        = o ∙ ap₂ (maximumFor maximumNumbers) (type-word tables (t .security)) (frequency-word tables (t .security)) in
+        ap (transferClaims calendar tables day number t) g
+        ∙ fail-claims date z
+        ∙ ap (λ (l : List Row). map (claimOn calendar tables day number (transferParties t) (t .par) failType) (select (λ row. ltb (date .0) (row .beneficiaryDate)) l))
+        (last-reached _ n k e (q ∙ ap (λ (x : ℕ). n - x) most))
+        ∙ fail-select date (take (n - k) (drop k rows))
+        ∙ each-of-take (failClaim calendar tables day number t (date .0)) (drop k rows) here (n - k) long
+        ∙ each-agree _ _ (n - k) (λ j h.
+        ap (failClaim calendar tables day number t (date .0)) (row-behind k j here (omega (arith, few-reached))))
+
+-- ---- how many claims
+
+select-within : {A : Type 0} (p : A → Bool) (xs : List A) → length (select p xs) ≤ length xs
+unfolding select
+select-within p [] = omega arith
+select-within p (x ∷ xs) = go (p x) (select-within p xs)
+  where
+    go : (b : Bool) → length (select p xs) ≤ length xs → length (cond b (x ∷ select p xs) (select p xs)) ≤ length (x ∷ xs)
+    go true h = omega arith
+    go false h = omega arith
+
+last-within : {A : Type 0} (n : ℕ) (xs : List A) → length (lastOf n xs) ≤ length xs
+unfolding lastOf
+last-within n xs = omega (arith, length-drop (length xs - n) xs)
+
+few-eligible : (tables : List ℕ) (day : ℕ) (t : Transfer) (tag : Tag) → length (eligible tables day t tag) ≤ 16
+unfolding eligible eligibleIn filledRows rowsOf
+few-eligible tables day t tag =
+    let words = securityOf tables (t .security) in
+    let reached = select (λ (row : Row). leb (row .beneficiaryDate) day) (select isFilled (rowsFrom 16 0 (drop 2 words))) in
+    let maximum = maximumFor maximumNumbers (typeOf words) (frequencyOf words) in
+    omega (
+      arith,
+      rows-length 16 0 (drop 2 words),
+      select-within isFilled (rowsFrom 16 0 (drop 2 words)),
+      select-within (λ (row : Row). leb (row .beneficiaryDate) day) (select isFilled (rowsFrom 16 0 (drop 2 words))),
+      last-within maximum reached,
+      select-within (λ (row : Row). ltb (contractDate tag) (row .beneficiaryDate)) (lastOf maximum reached),
+    )
+
+-- a transfer has at most 16 claims, whatever it is
+pub few-transfer : (calendar tables : List ℕ) (day number : ℕ) (t : Transfer) (tag : Tag) → length (transferClaims calendar tables day number t tag) ≤ 16
+unfolding transferClaims dues
+few-transfer calendar tables day number t tag = go (fails t tag)
+  where
+    claim : Due → Claim
+    claim d = claimOn calendar tables day number (transferParties t) (t .par) (d .claimType) (d .row)
+
+    go : (b : Bool) → length (map claim (cond b (map (due failType) (eligible tables day t tag)) [])) ≤ 16
+    go true = simp length-map (few-eligible tables day t tag)
+    go false = omega arith
+
+-- what a pass that only counts asks, and one that stores them where there is room
+pub free-count : (buffer calendar tables : List ℕ) (day number : ℕ) (t : Transfer) (tag : Tag)
+    → Free false buffer 0 (transferClaims calendar tables day number t tag)
+free-count buffer calendar tables day number t tag =
+    record { few = omega (arith, few-transfer calendar tables day number t tag); room = λ e. absurd (false≢true e) }
+
+pub free-store : (buffer calendar tables : List ℕ) (day number : ℕ) (t : Transfer) (tag : Tag)
+    → 35 * length (transferClaims calendar tables day number t tag) ≤ length buffer
+    → Free true buffer 0 (transferClaims calendar tables day number t tag)
+free-store buffer calendar tables day number t tag h =
+    record { few = omega (arith, few-transfer calendar tables day number t tag); room = λ e. omega arith }

@@ -1,0 +1,157 @@
+-- The loops over a security's rows: counting those that the day has reached, and the pass over the claims of the rows from a first one on.
+use mathlib.Core.Path.{_≡_, refl, sym, ap, _∙_, subst}
+use mathlib.Core.Bool.{Bool, cond}
+use mathlib.Core.List.{List, [], _∷_}
+use Prim.Native.Nat.{ℕ, suc, _+_, _-_, _*_, _≤_, _<_}
+use native.Mathlib.Nat.{zero-add, add-zero}
+use native.Mathlib.Numerals.{add-one}
+use native.Mathlib.Omega.{arith}
+use lib.ListN.{length, take, drop, getD, length-take, length-drop, drop-of-length-le}
+use lib.Seq.{drop-cons}
+use borrow.Author.Tests.{lt-ltb, le-ltb, le-leb, lt-leb}
+use Rattle.lists.specs.Tabulate.{each}
+use Rattle.records.specs.declared.Claim.{Claim}
+use Rattle.records.specs.declared.Transfer.{Transfer}
+use Rattle.securities.specs.Securities.{securityOf, Row, rowOf, rowsOf}
+use Rattle.claims.specs.Amounts.{claimOn}
+use Rattle.claims.specs.Fails.{transferParties}
+use Rattle.claims.specs.Claimable.{Claimable}
+use Rattle.claims.specs.Passes.{Free, Passed, pass-start, pass-more, pass-now, pass-end}
+use Rattle.claims.specs.Reached.{rowAt, leading, isReached, reachedRows, failClaim, Failing}
+use Rattle.claims.proofs.Reached.{rows-of-at, beneficiary-word, length-rows-of}
+
+-- ---- the rows that the day has reached
+
+-- what the loop keeps: the rows below i are reached, those from i on decide
+pub record Reaching (tables : List ℕ) (s day i : ℕ) : Type 0 where
+  pub small : i ≤ 16
+  pub rest : reachedRows tables s day ≡ i + leading (isReached day) (drop i (rowsOf (securityOf tables s)))
+
+pub reach-start : (tables : List ℕ) (s day : ℕ) → Reaching tables s day 0
+unfolding reachedRows
+reach-start tables s day = record { small = omega arith; rest = sym (zero-add _) }
+
+module _ {tables : List ℕ} {s day i : ℕ} (k : Reaching tables s day i) (h : i < 16) where
+  leading-here : leading (isReached day) (drop i (rowsOf (securityOf tables s)))
+      ≡ cond (isReached day (rowAt tables s i)) (suc (leading (isReached day) (drop (suc i) (rowsOf (securityOf tables s))))) 0
+  unfolding leading
+  leading-here =
+      let rows = rowsOf (securityOf tables s) in
+      let here = rowAt tables s i in
+      rw (drop-cons rows i here (omega (arith, length-rows-of tables s)), rows-of-at tables s i here h)
+
+  pub reach-empty : getD tables (114 * s + 2 + 7 * i + 1) 0 ≡ 0 → i ≡ reachedRows tables s day
+  unfolding isReached
+  reach-empty z =
+      let e : rowAt tables s i .beneficiaryDate ≡ 0 = sym (beneficiary-word tables s i) ∙ z in
+      sym (k .rest ∙ rw (leading-here, e) (add-zero i))
+
+  pub reach-later : day < getD tables (114 * s + 2 + 7 * i + 1) 0 → i ≡ reachedRows tables s day
+  unfolding isReached
+  reach-later l =
+      let date = rowAt tables s i .beneficiaryDate in
+      let m : day < date = subst (λ (x : ℕ). day < x) (beneficiary-word tables s i) l in
+      sym (k .rest ∙ rw (leading-here, lt-ltb 0 date (omega arith), lt-leb date day m) (add-zero i))
+
+  pub reach-next : (getD tables (114 * s + 2 + 7 * i + 1) 0 ≡ 0 → ⊥) → getD tables (114 * s + 2 + 7 * i + 1) 0 ≤ day → Reaching tables s day (i + 1)
+  unfolding isReached
+  reach-next z l =
+      let date = rowAt tables s i .beneficiaryDate in
+      let e : getD tables (114 * s + 2 + 7 * i + 1) 0 ≡ date = beneficiary-word tables s i in
+      let n : 0 < date = omega arith in
+      record {
+        small = omega arith;
+        rest = k .rest ∙ rw (leading-here, lt-ltb 0 date n, le-leb date day (omega arith), add-one) (omega arith);
+      }
+
+pub reach-end : {tables : List ℕ} {s day i : ℕ} → Reaching tables s day i → 16 ≤ i → i ≡ reachedRows tables s day
+unfolding leading
+reach-end {tables} {s} {day} {i} k h =
+    let none : drop i (rowsOf (securityOf tables s)) ≡ [] = drop-of-length-le _ {i = i} (omega (arith, length-rows-of tables s)) in
+    sym (k .rest ∙ rw none (add-zero i))
+
+-- ---- a pass over rows
+
+-- what the loop keeps: the pass over the first j of the rows is made, and n is the next record place
+pub record Passing (w : Bool) (l b : List ℕ) (claims : ℕ → List Claim) (count j n : ℕ) : Type 0 where
+  pub within : j ≤ count
+  pub done : Passed w l b 0 n (each j claims)
+  pub kept : length b ≡ length l
+
+module _ (w : Bool) (l : List ℕ) (claims : ℕ → List Claim) (count : ℕ) where
+  pub passing-start : Passing w l l claims count 0 0
+  passing-start = record { within = omega arith; done = pass-start w claims l 0; kept = refl }
+
+  module _ {b : List ℕ} {j n : ℕ} (free : Free w l 0 (each count claims)) (p : Passing w l b claims count j n) (h : j < count) where
+    pub passing-now : Free w b n (claims j)
+    passing-now = pass-now w claims j count l b 0 n h free (p .done) (p .kept)
+
+    pub passing-more : {after : List ℕ} {r : ℕ} → Passed w b after n r (claims j) → length after ≡ length b → Passing w l after claims count (j + 1) r
+    passing-more {after} {r} q e =
+        record { within = omega arith; done = pass-more w claims j count l b after 0 n r h free (p .done) q; kept = e ∙ p .kept }
+
+  pub passing-end : {b : List ℕ} {j n : ℕ} → Passing w l b claims count j n → count ≤ j → Passed w l b 0 n (each count claims)
+  passing-end {b} {j} {n} p h =
+      let e : j ≡ count = omega (arith, p .within) in
+      pass-end w claims j count l b 0 n e (p .done)
+
+-- ---- the claim on a row
+
+-- the seven words of a row, as a part of the tables that ends behind them
+abbrev wordsAt : List ℕ → ℕ → ℕ → List ℕ
+wordsAt tables s i =
+    let at = 114 * s + 2 + 7 * i in
+    take (at + 7 - at) (drop at tables)
+
+words-row : (tables : List ℕ) (s i : ℕ) → rowOf i (wordsAt tables s i) ≡ rowAt tables s i
+unfolding rowAt
+words-row tables s i =
+    let at = 114 * s + 2 + 7 * i in
+    let e : at + 7 - at ≡ 7 = omega arith in
+    ap (λ (k : ℕ). rowOf i (take k (drop at tables))) e
+
+seven-words : (tables : List ℕ) (s i : ℕ) → length tables ≡ 1824 → s < 16 → i < 16 → length (wordsAt tables s i) ≡ 7
+seven-words tables s i l h k = simp (length-take, length-drop) (omega arith)
+
+module _ (calendar tables : List ℕ) (day number : ℕ) (t : Transfer) (contract i : ℕ) where
+  pub fail-none : getD (wordsAt tables (t .security) i) 1 0 ≤ contract
+      → failClaim calendar tables day number t contract (rowAt tables (t .security) i) ≡ []
+  unfolding failClaim rowOf
+  fail-none h = rw (← words-row tables (t .security) i, le-ltb contract (getD (wordsAt tables (t .security) i) 1 0) h)
+
+  pub fail-one : (par : ℕ) (c : Claim) → contract < getD (wordsAt tables (t .security) i) 1 0 → par ≡ t .par
+      → c ≡ claimOn calendar tables day number (record { security = t .security; payee = t .receiver; payer = t .sender }) par 1
+      (rowOf i (wordsAt tables (t .security) i))
+      → failClaim calendar tables day number t contract (rowAt tables (t .security) i) ≡ c ∷ []
+  unfolding failClaim rowOf transferParties
+  fail-one par c h e q =
+      rw (← words-row tables (t .security) i, lt-ltb contract (getD (wordsAt tables (t .security) i) 1 0) h, ← e, ← q)
+
+pub claimable : {calendar tables : List ℕ} {t : Transfer} (i : ℕ) {par : ℕ} → Failing calendar tables t (i + 1) → t .par ≤ 9000000000 → par ≡ t .par
+    → Claimable calendar tables (t .security) (t .sender) par (wordsAt tables (t .security) i)
+unfolding rowOf
+claimable {calendar} {tables} {t} i f h e =
+    let row = words-row tables (t .security) i in
+    record {
+      months = f .months;
+      words = f .words;
+      seven = seven-words tables (t .security) i (f .words) (f .held) (omega (arith, f .rows));
+      held = f .held;
+      paying = f .paying;
+      small = omega arith;
+      interest = subst (λ (r : Row). r .interestFactor ≤ 2000000000) (sym row) (f .interest i (omega arith));
+      principal = subst (λ (r : Row). r .principalFactor ≤ 2000000000) (sym row) (f .principal i (omega arith));
+    }
+
+-- what claims on n rows ask, claims on fewer do too
+pub failing-below : {calendar tables : List ℕ} {t : Transfer} {m n : ℕ} → m ≤ n → Failing calendar tables t n → Failing calendar tables t m
+failing-below h f =
+    record {
+      months = f .months;
+      words = f .words;
+      held = f .held;
+      paying = f .paying;
+      rows = omega (arith, f .rows);
+      interest = λ i k. f .interest i (omega arith);
+      principal = λ i k. f .principal i (omega arith);
+    }

@@ -1,0 +1,75 @@
+// The close call (document 01, section Close): the day moves to the next open day, and the par on loan at each Record Date that is
+// crossed gives its claims.
+ghost use mathlib.Core.Path.{_≡_};
+ghost use lib.ListN.{length};
+ghost use Rattle.lists.specs.First.{firstOf};
+ghost use Rattle.days.specs.Days.{openAfter};
+ghost use Rattle.book.specs.Soundness.{bookCauses};
+ghost use Rattle.history.specs.Calls.{Call};
+ghost use Rattle.history.specs.Results.{left, result};
+use book::Book;
+use book::Done;
+use days::Day;
+use records::ReadClose;
+
+// The number of the first open day after a day, 0 where there is none.
+fn next_day(calendar: &[u32], day: u32) -> u32
+    requires { ⌜ length (now calendar) ≡ 480 ⌝ }
+    ensures { λ r. ⌜ r ≡ openAfter (now (calendar .entry)) day ⌝ }
+{
+    match days::open_after(calendar, day) {
+        Day::On(date) => date.0,
+        Day::Nothing => 0,
+    }
+}
+
+// The close of a sound book: numbers 1 to 4 do not apply.
+pub fn close_sound(
+    calendar: &[u32],
+    tables: &[u32],
+    book: Book,
+    balances: &mut [u64],
+    message: &[u8],
+    claims: &mut [u8],
+) -> Done
+    requires { ⌜ firstOf (bookCauses (now calendar) (now tables) (book .day) (now balances)) ≡ 0 ⌝ }
+    ensures { λ r. ⌜ left r (now (claims .exit)) (now (balances .exit)) ≡ result (now (calendar .entry)) (now (tables .entry)) book (now (balances .entry)) (Call.close (record { message = now (message .entry); buffer = now (claims .entry) })) ⌝ }
+{
+    if let ReadClose::Refused = records::read_close(message) {
+        return book::refused(5, book);
+    }
+    let day = book.day;
+    let next = next_day(calendar, day);
+    if next_day(calendar, next) == 0 {
+        return book::refused(9, book);
+    }
+    let n = passes::close::pass_close(false, claims, calendar, tables, day, next, balances);
+    if claims.len() < 35 * n {
+        return book::refused(10, book);
+    }
+    let m = passes::close::pass_close(true, claims, calendar, tables, day, next, balances);
+    let count = book.count;
+    Done {
+        number: 0,
+        book: Book { day: next, count },
+        claims: m,
+    }
+}
+
+// The close of any book: the first number that applies, or the claims of the Record Dates crossed and the next open day.
+pub fn close(
+    calendar: &[u32],
+    tables: &[u32],
+    book: Book,
+    balances: &mut [u64],
+    message: &[u8],
+    claims: &mut [u8],
+) -> Done
+    ensures { λ r. ⌜ left r (now (claims .exit)) (now (balances .exit)) ≡ result (now (calendar .entry)) (now (tables .entry)) book (now (balances .entry)) (Call.close (record { message = now (message .entry); buffer = now (claims .entry) })) ⌝ }
+{
+    let number = book::book_number(calendar, tables, book.day, balances);
+    if number != 0 {
+        return book::refused(number, book);
+    }
+    close_sound(calendar, tables, book, balances, message, claims)
+}

@@ -1,0 +1,161 @@
+-- Each refusal is the first cause that applies; an accepted transfer is counted, posted, and its claims are stored.
+use mathlib.Core.Path.{_≡_, refl, sym, ap, _∙_}
+use Prim.Native.Nat.{ℕ, _+_}
+use lib.ListN.{length}
+use Rattle.records.specs.declared.Transfer.{Transfer}
+use Rattle.records.proofs.Readings.{transfer-long, first-line-length, second-line-length}
+use Rattle.claims.specs.Passes.{free-count, free-store, passed-written}
+use Rattle.claims.specs.Written.{written}
+use Rattle.claims.proofs.Reached.{few-transfer}
+use Rattle.book.specs.Loans.{changeOf, changed}
+use Rattle.book.proofs.Judged as judged
+use Rattle.history.specs.Calls.{transfer, bufferOf, claimsOf}
+use Rattle.history.specs.Results.{nextBook, nextBalances}
+use Rattle.history.proofs.Answers.{answers-refused, answers-accepted, sound-number}
+use Rattle.transfers.proofs.Numbers.{tag-read, passed, same-claims, read-refused, read-room, read-accepted}
+use borrow.Author.Needs.{needs}
+use native.Mathlib.Omega.{arith}
+use Rattle.transfers.proofs.transfer_read.Statement.{statement}
+use Rattle.transfers.proofs.transfer_read.Tie as tie
+
+first-line-requires : tie.Need-first-line-requires
+first-line-requires c κs = transfer-long _ (c .before .before .before .before .before .pre .1)
+
+second-line-requires : tie.Need-second-line-requires
+second-line-requires c κs = transfer-long _ (c .before .before .before .before .before .before .pre .1)
+
+tag-of-requires : tie.Need-tag-of-requires
+tag-of-requires c κs =
+    let h = transfer-long _ (c .before .before .before .before .before .before .before .pre .1) in
+    (ap length (c .before .first-line .ensures) ∙ first-line-length _ h, ap length (c .second-line .ensures) ∙ second-line-length _ h)
+
+own-number-requires : tie.Need-own-number-requires
+own-number-requires c κs = let k = judged.sound-number _ _ _ _ (c .before .before .before .before .before .before .before .before .before .pre .0) .tables-sound in (k .table-words, k .balance-words)
+
+refused-requires : tie.Need-refused-requires
+refused-requires c κs = search needs
+
+same-length : tie.Need-same-length
+same-length c = search needs
+
+returns : tie.Need-returns
+unfolding bufferOf
+returns c =
+    let s = c .before .before .before .before .before .before .before .before .before .before .before .before in
+    let a = s .args in
+    rw (c .refused .ensures)
+    (answers-refused (a .calendar .now) (a .tables .now) (a .book) (a .balances .now) (transfer (record { message = a .message .now; buffer = a .claims .now })) _
+    (sound-number (a .calendar .now) (a .tables .now) (a .book) (a .balances .now) (transfer (record { message = a .message .now; buffer = a .claims .now })) _ (s .pre .0) (read-refused (a .calendar .now) (a .tables .now) (a .book) (a .balances .now) (record { message = a .message .now; buffer = a .claims .now }) (s .pre .1) (a .t) _ (s .pre .2) (tag-read (a .message .now) (c .before .before .before .before .tag-of .ensures) (c .before .before .before .before .before .before .first-line .ensures) (c .before .before .before .before .before .second-line .ensures)) _ (c .before .before .own-number .ensures) (c .before .if1 .taken)))
+    (c .before .if1 .taken))
+
+add-count : tie.Need-add-count
+add-count c = let f = passed _ _ _ _ _ (sym (c .before .before .own-number .ensures) ∙ c .before .if1 .left) .count in search needs
+
+transfer-claims-requires : tie.Need-transfer-claims-requires
+transfer-claims-requires c κs =
+    let s = c .before .before .before .before .before .before .before .before .before .before .before .before .before in
+    let a = s .args in
+    let k = judged.sound-number _ _ _ _ (s .pre .0) .tables-sound in
+    let f = passed _ _ _ _ _ (sym (c .before .before .before .own-number .ensures) ∙ c .before .before .if1 .left) .fields in (
+      k .calendar-words,
+      k .table-words,
+      k .table-rules,
+      f .security,
+      f .sender,
+      free-count _ _ (omega (arith, few-transfer (a .calendar .now) (a .tables .now) (a .book .day) (a .book .count + 1) (a .t) (c .before .before .before .before .before .tag-of .result))),
+    )
+
+mul-if2 : tie.Need-mul-if2
+mul-if2 c =
+    let s = c .before .before .before .before .before .before .before .before .before .before .before .before .before .before .before .before in
+    let a = s .args in
+    record { fits = omega (arith, c .before .before .transfer-claims .ensures .next, few-transfer (a .calendar .now) (a .tables .now) (a .book .day) (a .book .count + 1) (a .t) (c .before .before .before .before .before .before .before .before .tag-of .result)) }
+
+refused-requires-2 : tie.Need-refused-requires-2
+refused-requires-2 c κs = search needs
+
+same-length-2 : tie.Need-same-length-2
+same-length-2 c = search needs
+
+same-length-3 : tie.Need-same-length-3
+same-length-3 c = search needs
+
+returns-2 : tie.Need-returns-2
+unfolding bufferOf
+returns-2 c =
+    let s = c .before .before .before .before .before .before .before .before .before .before .before .before .before .before .before .before .before .before in
+    let a = s .args in
+    let p = c .before .before .before .before .transfer-claims .ensures in
+    rw (c .refused2 .ensures, p .bytes)
+    (answers-refused (a .calendar .now) (a .tables .now) (a .book) (a .balances .now) (transfer (record { message = a .message .now; buffer = a .claims .now })) _
+    (sound-number (a .calendar .now) (a .tables .now) (a .book) (a .balances .now) (transfer (record { message = a .message .now; buffer = a .claims .now })) _ (s .pre .0)
+    (read-room (a .calendar .now) (a .tables .now) (a .book) (a .balances .now) (record { message = a .message .now; buffer = a .claims .now }) (s .pre .1) (a .t) _ (s .pre .2) (tag-read (a .message .now) (c .before .before .before .before .before .before .before .before .before .before .tag-of .ensures) (c .before .before .before .before .before .before .before .before .before .before .before .before .first-line .ensures) (c .before .before .before .before .before .before .before .before .before .before .before .second-line .ensures)) _ (c .before .before .before .before .before .before .before .before .own-number .ensures) (c .before .before .before .before .before .before .before .if1 .left) (omega (arith, p .next, c .before .if2 .taken, c .before .before .before .before .transfer-claims .kept .1 .0))))
+    (λ z. omega arith))
+
+post-requires : tie.Need-post-requires
+post-requires c κs =
+    let s = c .before .before .before .before .before .before .before .before .before .before .before .before .before .before .before .before .before .before in
+    let a = s .args in
+    let k = passed _ _ _ _ _ (sym (c .before .before .before .before .before .before .before .before .own-number .ensures) ∙ c .before .before .before .before .before .before .before .if1 .left) in
+    let f = k .fields in
+    (judged.sound-number _ _ _ _ (s .pre .0) .tables-sound .balance-words, f .sender, f .receiver, f .security, k .loan)
+
+transfer-claims-requires-2 : tie.Need-transfer-claims-requires-2
+transfer-claims-requires-2 c κs =
+    let s = c .before .before .before .before .before .before .before .before .before .before .before .before .before .before .before .before .before .before .before .before .before .before in
+    let a = s .args in
+    let k = judged.sound-number _ _ _ _ (s .pre .0) .tables-sound in
+    let f = passed _ _ _ _ _ (sym (c .before .before .before .before .before .before .before .before .before .before .before .before .own-number .ensures) ∙ c .before .before .before .before .before .before .before .before .before .before .before .if1 .left) .fields in (
+      k .calendar-words,
+      k .table-words,
+      k .table-rules,
+      f .security,
+      f .sender,
+      free-store _ _ (omega (arith, few-transfer (a .calendar .now) (a .tables .now) (a .book .day) (a .book .count + 1) (a .t) (c .before .before .before .before .before .before .before .before .before .before .before .before .before .before .tag-of .result))) (omega (arith, c .before .before .before .before .before .before .before .before .transfer-claims .ensures .next, c .before .before .before .before .before .if2 .left)),
+    )
+
+same-length-4 : tie.Need-same-length-4
+same-length-4 c = search needs
+
+same-length-5 : tie.Need-same-length-5
+same-length-5 c = search needs
+
+returns-3 : tie.Need-returns-3
+unfolding bufferOf claimsOf nextBook nextBalances
+returns-3 c =
+    let s = c .before .before .before .before .before .before .before .before .before .before .before .before .before .before .before .before .before .before .before .before .before .before .before .before .before in
+    let a = s .args in
+    let p = c .before .before .before .before .before .before .before .before .before .before .before .transfer-claims .ensures in
+    let q = c .before .before .transfer-claims2 .ensures in
+    let e = same-claims (a .calendar .now) (a .tables .now) (a .book) (a .balances .now) (record { message = a .message .now; buffer = a .claims .now }) (s .pre .1) (a .t) _ (s .pre .2) (tag-read (a .message .now) (c .before .before .before .before .before .before .before .before .before .before .before .before .before .before .before .before .before .tag-of .ensures) (c .before .before .before .before .before .before .before .before .before .before .before .before .before .before .before .before .before .before .before .first-line .ensures) (c .before .before .before .before .before .before .before .before .before .before .before .before .before .before .before .before .before .before .second-line .ensures)) _ (c .before .before .before .before .before .before .before .before .before .before .before .before .before .before .before .own-number .ensures) in
+    answers-accepted (a .calendar .now) (a .tables .now) (a .book) (a .balances .now) (transfer (record { message = a .message .now; buffer = a .claims .now })) _ _ _ _
+    (sound-number (a .calendar .now) (a .tables .now) (a .book) (a .balances .now) (transfer (record { message = a .message .now; buffer = a .claims .now })) _ (s .pre .0)
+    (read-accepted (a .calendar .now) (a .tables .now) (a .book) (a .balances .now) (record { message = a .message .now; buffer = a .claims .now }) (s .pre .1) (a .t) _ (s .pre .2) (tag-read (a .message .now) (c .before .before .before .before .before .before .before .before .before .before .before .before .before .before .before .before .before .tag-of .ensures) (c .before .before .before .before .before .before .before .before .before .before .before .before .before .before .before .before .before .before .before .first-line .ensures) (c .before .before .before .before .before .before .before .before .before .before .before .before .before .before .before .before .before .before .second-line .ensures)) _ (c .before .before .before .before .before .before .before .before .before .before .before .before .before .before .before .own-number .ensures) (c .before .before .before .before .before .before .before .before .before .before .before .before .before .before .if1 .left) (omega (arith, p .next, c .before .before .before .before .before .before .before .before .if2 .left, c .before .before .before .before .before .before .before .before .before .before .before .transfer-claims .kept .1 .0))))
+    refl
+    (omega (arith, q .next, ap length e))
+    (passed-written _ _ _ _ _ _ p q ∙ ap (λ x. written x (a .claims .now)) e)
+    (c .before .before .before .before .before .before .post .ensures ∙ ap (λ (x : Transfer). changed (a .balances .now) (changeOf x) (x .par)) (s .pre .2))
+
+pub transfer-read-spec : {M : Type 1} → statement M
+transfer-read-spec =
+    tie.close
+    (tie.spec
+    first-line-requires
+    second-line-requires
+    tag-of-requires
+    own-number-requires
+    refused-requires
+    same-length
+    returns
+    add-count
+    transfer-claims-requires
+    mul-if2
+    refused-requires-2
+    same-length-2
+    same-length-3
+    returns-2
+    post-requires
+    transfer-claims-requires-2
+    same-length-4
+    same-length-5
+    returns-3)

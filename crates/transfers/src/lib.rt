@@ -1,0 +1,144 @@
+// The transfer call (document 01, sections Fail claims and Loans): a message is judged, its par is posted, and its fail claims are
+// written.
+ghost use mathlib.Core.Path.{_≡_};
+ghost use mathlib.Core.Bool.{true, _||_};
+ghost use Prim.Native.Nat.{_≤_, _<_};
+ghost use lib.Dec.{leb};
+ghost use lib.ListN.{length};
+ghost use Rattle.lists.specs.First.{firstOf};
+ghost use Rattle.records.specs.MessageRecords.{transferKind, transferOf, reads};
+ghost use Rattle.book.specs.Soundness.{bookCauses};
+ghost use Rattle.history.specs.Calls.{Call};
+ghost use Rattle.history.specs.Causes.{outOfRange, transferCauses};
+ghost use Rattle.history.specs.Results.{left, result};
+use book::Book;
+use book::Done;
+use records::ReadTransfer;
+use records::Transfer;
+use tags::Tag;
+
+// Whether an account or the security is none of the book's.
+fn beyond(t: Transfer) -> bool
+    ensures { λ r. ⌜ r ≡ (leb 16 (t .sender) || leb 16 (t .receiver) || leb 16 (t .security)) ⌝ }
+{
+    if 16 <= t.sender {
+        return true;
+    }
+    if 16 <= t.receiver {
+        return true;
+    }
+    16 <= t.security
+}
+
+// Whether a field is out of range: number 6.
+fn out_of_range(tables: &[u32], t: Transfer) -> bool
+    requires { ⌜ length (now tables) ≡ 1824 ⌝ }
+    ensures { λ r. ⌜ r ≡ outOfRange (now (tables .entry)) t ⌝ }
+{
+    if beyond(t) {
+        return true;
+    }
+    if securities::security_type(tables, t.security as usize) == 0 {
+        return true;
+    }
+    if 1 < t.class {
+        return true;
+    }
+    if 6 < t.code {
+        return true;
+    }
+    if t.par == 0 {
+        return true;
+    }
+    if 100000000 < t.par {
+        return true;
+    }
+    t.sender == t.receiver
+}
+
+// The first of the numbers 6, 132 to 139, 11, 7 and 8 that a transfer meets, 0 where it meets none.
+fn own_number(tables: &[u32], book: Book, balances: &[u64], t: Transfer, tag: Tag) -> u16
+    requires { ⌜ (length (now tables) ≡ 1824) × (length (now balances) ≡ 4096) ⌝ }
+    ensures { λ r. ⌜ r ≡ firstOf (transferCauses (now (tables .entry)) book (now (balances .entry)) t tag) ⌝ }
+{
+    if out_of_range(tables, t) {
+        return 6;
+    }
+    let number = tags::edits(tag, t.class, book.day);
+    if number != 0 {
+        return number;
+    }
+    if 4294967295 <= book.count {
+        return 11;
+    }
+    book::loan_number(balances, t)
+}
+
+// The transfer of a sound book with a message that reads.
+fn transfer_read(
+    calendar: &[u32],
+    tables: &[u32],
+    book: Book,
+    balances: &mut [u64],
+    message: &[u8],
+    claims: &mut [u8],
+    t: Transfer,
+) -> Done
+    requires { ⌜ (firstOf (bookCauses (now calendar) (now tables) (book .day) (now balances)) ≡ 0) × (reads transferKind (now message) ≡ true) × (t ≡ transferOf (now message)) ⌝ }
+    ensures { λ r. ⌜ left r (now (claims .exit)) (now (balances .exit)) ≡ result (now (calendar .entry)) (now (tables .entry)) book (now (balances .entry)) (Call.transfer (record { message = now (message .entry); buffer = now (claims .entry) })) ⌝ }
+{
+    let tag = tags::tag_of(records::first_line(message), records::second_line(message));
+    let number = own_number(tables, book, balances, t, tag);
+    if number != 0 {
+        return book::refused(number, book);
+    }
+    let day = book.day;
+    let count = book.count + 1;
+    let n = passes::fails::transfer_claims(false, claims, calendar, tables, day, count, t, tag);
+    if claims.len() < 35 * n {
+        return book::refused(10, book);
+    }
+    book::post(balances, t);
+    let m = passes::fails::transfer_claims(true, claims, calendar, tables, day, count, t, tag);
+    Done {
+        number: 0,
+        book: Book { day, count },
+        claims: m,
+    }
+}
+
+// The transfer of a sound book: numbers 1 to 4 do not apply.
+pub fn transfer_sound(
+    calendar: &[u32],
+    tables: &[u32],
+    book: Book,
+    balances: &mut [u64],
+    message: &[u8],
+    claims: &mut [u8],
+) -> Done
+    requires { ⌜ firstOf (bookCauses (now calendar) (now tables) (book .day) (now balances)) ≡ 0 ⌝ }
+    ensures { λ r. ⌜ left r (now (claims .exit)) (now (balances .exit)) ≡ result (now (calendar .entry)) (now (tables .entry)) book (now (balances .entry)) (Call.transfer (record { message = now (message .entry); buffer = now (claims .entry) })) ⌝ }
+{
+    let ReadTransfer::Is(t) = records::read_transfer(message) else {
+        return book::refused(5, book);
+    };
+    transfer_read(calendar, tables, book, balances, message, claims, t)
+}
+
+// The transfer of any book: the first number that applies, or its par posted and its fail claims.
+pub fn transfer(
+    calendar: &[u32],
+    tables: &[u32],
+    book: Book,
+    balances: &mut [u64],
+    message: &[u8],
+    claims: &mut [u8],
+) -> Done
+    ensures { λ r. ⌜ left r (now (claims .exit)) (now (balances .exit)) ≡ result (now (calendar .entry)) (now (tables .entry)) book (now (balances .entry)) (Call.transfer (record { message = now (message .entry); buffer = now (claims .entry) })) ⌝ }
+{
+    let number = book::book_number(calendar, tables, book.day, balances);
+    if number != 0 {
+        return book::refused(number, book);
+    }
+    transfer_sound(calendar, tables, book, balances, message, claims)
+}
