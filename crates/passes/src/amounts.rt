@@ -16,19 +16,22 @@ use records::Cents;
 use records::Claim;
 use records::Dollars;
 
-// The claim types.
+// The type of a fail claim.
 pub const FAIL: u8 = 1;
 
+// The type of a lending claim.
 pub const LENDING: u8 = 3;
 
-// The outcomes: a claim settles, or it is a notice, as both amounts are zero, as the payment redeems a security on loan, or as the payer's
-// mask bit is on.
+// The outcome of a claim that settles.
 const SETTLE: u8 = 0;
 
+// A notice: both amounts are zero.
 const NOTHING: u8 = 1;
 
+// A notice: the payment redeems a security on loan.
 const REDEEMED: u8 = 2;
 
+// A notice: the payer's mask bit is on.
 const MASKED: u8 = 3;
 
 // The cents on whole dollars of par at a factor in billionths of a dollar; half a cent goes up.

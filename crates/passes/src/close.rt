@@ -12,6 +12,7 @@ ghost use Rattle.securities.specs.Securities.{rowOf};
 ghost use Rattle.claims.specs.Close.{loanParties, loanClaim, rowClaims, closeClaims};
 ghost use Rattle.claims.specs.Passes.{Free, Passed};
 ghost use Rattle.claims.specs.Turns.{Ready, Sound, SoundClose, lenderClaims, turnClaims, securityClaims, small};
+use super::amounts::LENDING;
 use super::amounts::claim_on;
 use super::amounts::put_claim;
 use records::Dollars;
@@ -52,7 +53,7 @@ fn pass_loan(
             lender,
             borrower,
             Dollars(par),
-            3,
+            LENDING,
             index,
             row,
         ),

@@ -53,25 +53,36 @@ all-zero-requires-2 : tie.Need-all-zero-requires-2 Inv-loop μ-loop
 all-zero-requires-2 c κs = search needs
 
 returns : tie.Need-returns Inv-loop μ-loop
-returns c = c .all-zero2 .ensures ∙ rows-empty (c .before .before .before .before .before .before .before .before .pre) (c .before .before .before .before .before .loop-test .taken) (c .before .before .before .before .before .before .loop .inv) (sym (c .before .before .before .all-zero .ensures) ∙ c .before .before .if1 .taken)
+returns c =
+    let here = c .before .before .before .before .before in
+    c .all-zero2 .ensures ∙ rows-empty (here .before .before .before .pre) (here .loop-test .taken) (here .before .loop .inv) (sym (c .before .before .before .all-zero .ensures) ∙ c .before .before .if1 .taken)
 
 good-row-requires : tie.Need-good-row-requires Inv-loop μ-loop
 good-row-requires c κs = row-length _ _ (c .before .before .before .before .before .before .pre) (c .before .before .before .loop-test .taken)
 
 returns-2 : tie.Need-returns-2 Inv-loop μ-loop
-returns-2 c = rows-broken (c .before .before .before .before .before .before .before .before .pre) (c .before .before .before .before .before .loop-test .taken) (c .before .before .before .before .before .before .loop .inv) (sym (c .before .before .before .all-zero .ensures) ∙ c .before .before .if1 .left) (search (no-left, no-right, sym (c .before .good-row .ensures) ∙ not-true _ (c .if2 .taken)) depth 4)
+returns-2 c =
+    let here = c .before .before .before .before .before in
+    rows-broken (here .before .before .before .pre) (here .loop-test .taken) (here .before .loop .inv) (sym (c .before .before .before .all-zero .ensures) ∙ c .before .before .if1 .left)
+    (search (no-left, no-right, sym (c .before .good-row .ensures) ∙ not-true _ (c .if2 .taken)) depth 4)
 
 shared-slice-read-if3 : tie.Need-shared-slice-read-if3 Inv-loop μ-loop
 shared-slice-read-if3 c = search needs
 
 returns-3 : tie.Need-returns-3 Inv-loop μ-loop
-returns-3 c = rows-broken (c .before .before .before .before .before .before .before .before .before .before .pre) (c .before .before .before .before .before .before .before .loop-test .taken) (c .before .before .before .before .before .before .before .before .loop .inv) (sym (c .before .before .before .before .before .all-zero .ensures) ∙ c .before .before .before .before .if1 .left) (search (no-left, no-right, le-ltb _ _ (c .if3 .taken)) depth 4)
+returns-3 c =
+    let here = c .before .before .before .before .before .before .before in
+    rows-broken (here .before .before .before .pre) (here .loop-test .taken) (here .before .loop .inv) (sym (c .before .before .before .before .before .all-zero .ensures) ∙ c .before .before .before .before .if1 .left)
+    (search (no-left, no-right, le-ltb _ _ (c .if3 .taken)) depth 4)
 
 shared-slice-read-if4 : tie.Need-shared-slice-read-if4 Inv-loop μ-loop
 shared-slice-read-if4 c = search needs
 
 returns-4 : tie.Need-returns-4 Inv-loop μ-loop
-returns-4 c = rows-broken (c .before .before .before .before .before .before .before .before .before .before .before .before .pre) (c .before .before .before .before .before .before .before .before .before .loop-test .taken) (c .before .before .before .before .before .before .before .before .before .before .loop .inv) (sym (c .before .before .before .before .before .before .before .all-zero .ensures) ∙ c .before .before .before .before .before .before .if1 .left) (search (no-left, no-right, le-ltb _ _ (c .if4 .taken)) depth 4)
+returns-4 c =
+    let here = c .before .before .before .before .before .before .before .before .before in
+    rows-broken (here .before .before .before .pre) (here .loop-test .taken) (here .before .loop .inv) (sym (c .before .before .before .before .before .before .before .all-zero .ensures) ∙ c .before .before .before .before .before .before .if1 .left)
+    (search (no-left, no-right, le-ltb _ _ (c .if4 .taken)) depth 4)
 
 shared-slice-read-record-date : tie.Need-shared-slice-read-record-date Inv-loop μ-loop
 shared-slice-read-record-date c = search needs
@@ -87,7 +98,8 @@ loop-less c = search needs
 
 loop-again : tie.Need-loop-again Inv-loop μ-loop
 loop-again c =
-    rows-step (c .before .before .before .before .before .before .before .before .before .before .before .before .before .before .pre) (c .before .before .before .before .before .before .before .before .before .before .before .loop-test .taken) (c .before .before .before .before .before .before .before .before .before .before .before .before .loop .inv) (sym (c .before .before .before .before .before .before .before .before .before .all-zero .ensures) ∙ c .before .before .before .before .before .before .before .before .if1 .left)
+    let here = c .before .before .before .before .before .before .before .before .before .before .before in
+    rows-step (here .before .before .before .pre) (here .loop-test .taken) (here .before .loop .inv) (sym (c .before .before .before .before .before .before .before .before .before .all-zero .ensures) ∙ c .before .before .before .before .before .before .before .before .if1 .left)
     (sym (c .before .before .before .before .before .before .before .good-row .ensures) ∙ not-false _ (c .before .before .before .before .before .before .if2 .left)) (c .before .before .before .before .if3 .left) (c .before .before .if4 .left)
 
 returns-5 : tie.Need-returns-5 Inv-loop μ-loop
