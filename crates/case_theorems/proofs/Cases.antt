@@ -152,7 +152,7 @@ cases =
       held = [];
     })
     ∷
-    -- P: C 20230401, S 20230404: none. A rule of C ≤ Beneficiary Date would claim April.
+    -- P: C 20230401, S 20230404: none.
     (record {
       tables = caseTables;
       day = 20230404;
@@ -199,6 +199,19 @@ cases =
           ∷ 170 ∷ 170 ∷ 170 ∷ 170 ∷ 170 ∷ [])
           ∷ [];
       held = word-of 18 15000 ∷ word-of 33 0 ∷ [];
+    })
+    ∷
+    -- C on the Beneficiary Date gives no claim: C 20230501, S 20230509; a rule of C ≤ Beneficiary Date would claim May.
+    (record {
+      tables = caseTables;
+      day = 20230509;
+      calls =
+          sent 1 2 0 400000 (tagLine 20230501) 5
+          ∷ [];
+      answers =
+          answer 0 20230509 1 0 (170 ∷ 170 ∷ 170 ∷ 170 ∷ 170 ∷ [])
+          ∷ [];
+      held = [];
     })
     ∷
     -- Of two dates an annual Treasury claims the most recent; filling from the oldest would claim row 0.

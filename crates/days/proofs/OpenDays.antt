@@ -338,6 +338,17 @@ module _ {calendar : List ℕ} (kept : Kept calendar) where
   unfolding lastOpen
   last-latest x o = last-below 480 (lit≤ tt) .latest x o (word-lt x (open-date calendar x o))
 
+  found-last : (r : ℕ) → ((r ≡ 0 → ⊥) → isOpen calendar r ≡ true) → r ≤ lastOpen calendar
+  found-last zero h = omega arith
+  found-last (suc r) h = last-latest (suc r) (h (λ e. omega arith))
+
+  -- so a day found is no later than it
+  pub after-last : (n : ℕ) → isDate n ≡ true → openAfter calendar n ≤ lastOpen calendar
+  after-last n d = found-last (openAfter calendar n) (after-open kept n d)
+
+  pub from-last : (n : ℕ) → isDate n ≡ true → openFrom calendar n ≤ lastOpen calendar
+  from-last n d = found-last (openFrom calendar n) (from-open kept n d)
+
 -- ---- the answer of a search
 
 pub day-number : (n : ℕ) → dayNumber (asDay n) ≡ n
