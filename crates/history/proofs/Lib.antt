@@ -6,3 +6,4 @@ pub mod Once
 pub mod Theorem
 pub mod Rows
 pub mod Answers
+pub mod StaysSound
