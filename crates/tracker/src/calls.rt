@@ -1,0 +1,52 @@
+// Opening, transfer and close for C and Rust callers. A slice passes as a pointer and a count of its elements.
+ghost use mathlib.Core.Path.{_≡_};
+ghost use Rattle.history.specs.Calls.{Call};
+ghost use Rattle.history.specs.Results.{left, result, leftOpen, opened};
+use book::Book;
+use book::Done;
+
+// Opens a book on a day: its count and all balances become zero. Refused, with 1 to 4, it returns day 20000101 and count 0 and leaves
+// the balances.
+#[no_mangle]
+pub extern "C" fn claim_tracker_open(
+    calendar: &[u32],
+    tables: &[u32],
+    balances: &mut [u64],
+    day: u32,
+) -> Done
+    ensures { λ r. ⌜ (leftOpen r (now (balances .exit)) ≡ opened (now (calendar .entry)) (now (tables .entry)) (now (balances .entry)) day) × (r .claims ≡ 0) ⌝ }
+{
+    opens::open(calendar, tables, balances, day)
+}
+
+// Works a transfer: posts its par, and writes its fail claims from the claim buffer's start. Refused, it returns the first number that
+// applies and the book given, and leaves balances and claim buffer.
+#[no_mangle]
+pub extern "C" fn claim_tracker_transfer(
+    calendar: &[u32],
+    tables: &[u32],
+    book: Book,
+    balances: &mut [u64],
+    message: &[u8],
+    claims: &mut [u8],
+) -> Done
+    ensures { λ r. ⌜ left r (now (claims .exit)) (now (balances .exit)) ≡ result (now (calendar .entry)) (now (tables .entry)) book (now (balances .entry)) (Call.transfer (record { message = now (message .entry); buffer = now (claims .entry) })) ⌝ }
+{
+    transfers::transfer(calendar, tables, book, balances, message, claims)
+}
+
+// Works a close: the day moves to the next open day, and the lending claims of the Record Dates crossed are written from the claim
+// buffer's start. Refused, it returns the first number that applies and the book given, and leaves balances and claim buffer.
+#[no_mangle]
+pub extern "C" fn claim_tracker_close(
+    calendar: &[u32],
+    tables: &[u32],
+    book: Book,
+    balances: &mut [u64],
+    message: &[u8],
+    claims: &mut [u8],
+) -> Done
+    ensures { λ r. ⌜ left r (now (claims .exit)) (now (balances .exit)) ≡ result (now (calendar .entry)) (now (tables .entry)) book (now (balances .entry)) (Call.close (record { message = now (message .entry); buffer = now (claims .entry) })) ⌝ }
+{
+    closes::close(calendar, tables, book, balances, message, claims)
+}

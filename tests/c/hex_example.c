@@ -1,0 +1,135 @@
+/* Replays document 01's hex example through the exported functions: the book opened on 20230404 with the cases' tables, the first
+   case's transfer from account 1 to 2, and all bytes that come out. Then the codecs both ways, a close and refusals. */
+#include <stdio.h>
+#include <string.h>
+
+#include "claim_tracker.h"
+
+static uint32_t calendar[CLAIM_TRACKER_CALENDAR_WORDS];
+static uint32_t tables[CLAIM_TRACKER_TABLE_WORDS];
+static uint64_t balances[CLAIM_TRACKER_BALANCE_WORDS];
+
+static int passed, failed;
+
+static void check(const char *name, int holds) {
+    if (holds) {
+        passed++;
+    } else {
+        failed++;
+        printf("failed: %s\n", name);
+    }
+}
+
+static int month_length(int year, int month) {
+    static const int lengths[12] = {31, 28, 31, 30, 31, 30, 31, 31, 30, 31, 30, 31};
+    return lengths[month] + (month == 1 && year % 4 == 0);
+}
+
+/* Monday to Friday; 1 January 2000 is a Saturday, and no year divisible by 100 but 2000 occurs. */
+static void weekdays(void) {
+    int weekday = 5;
+    for (int m = 0; m < CLAIM_TRACKER_CALENDAR_WORDS; m++) {
+        calendar[m] = 0;
+        for (int d = 0; d < month_length(2000 + m / 12, m % 12); d++) {
+            if (weekday < 5) calendar[m] |= (uint32_t)1 << d;
+            weekday = (weekday + 1) % 7;
+        }
+    }
+}
+
+/* Security 0: agency MBS, monthly, rows for April and May 2023. */
+static void case_tables(void) {
+    static const uint32_t words[16] = {3,        1,        20230401, 20230401, 20230415, 5000000, 0, 0,
+                                       0,        20230501, 20230501, 20230515, 5000000,  0,       0, 0};
+    memset(tables, 0, sizeof tables);
+    memcpy(tables, words, sizeof words);
+}
+
+static const uint8_t expected[41] = {0x21, 0x00, 0x03, 0x00, 0x01, 0x00, 0x01, 0x02, 0x00, 0x00, 0x01, 0x00, 0x00, 0x00,
+                                     0xA0, 0x86, 0x01, 0x00, 0x00, 0x00, 0x00, 0x00, 0x00, 0x00, 0x00, 0x00, 0x00, 0x00,
+                                     0x00, 0x00, 0x11, 0xB1, 0x34, 0x01, 0x03, 0x04, 0x00, 0x04, 0x00, 0x00, 0x00};
+
+int main(void) {
+    struct claim_tracker_done done;
+    struct claim_tracker_book book;
+    uint8_t message[CLAIM_TRACKER_TRANSFER_BYTES + 3];
+    uint8_t out[64];
+    uint8_t first[CLAIM_TRACKER_LINE_BYTES], second[CLAIM_TRACKER_LINE_BYTES];
+    struct claim_tracker_transfer_fields fields = {1, 2, 0, 0, 0, 200000};
+
+    weekdays();
+    case_tables();
+    memset(balances, 0xff, sizeof balances);
+    done = claim_tracker_open(calendar, 480, tables, 1824, balances, 4096, 20230402);
+    check("an opening on a Sunday is refused", done.number == 4 && done.book.day == 20000101 && done.book.count == 0 && done.claims == 0);
+    check("a refused opening leaves the balances", balances[0] == UINT64_MAX && balances[4095] == UINT64_MAX);
+    done = claim_tracker_open(calendar, 480, tables, 1824, balances, 4096, 20230404);
+    check("opening", done.number == 0 && done.book.day == 20230404 && done.book.count == 0 && done.claims == 0);
+    check("opening clears the balances", balances[0] == 0 && balances[4095] == 0);
+    book = done.book;
+
+    memset(first, ' ', sizeof first);
+    memset(second, ' ', sizeof second);
+    memcpy(first, "{98A:CNTR/20230315}", 19);
+    memset(message, 0xee, sizeof message);
+    check("a transfer does not fit 140 bytes", claim_tracker_write_transfer(message, 140, fields, first, second) == 10 && message[0] == 0xee);
+    check("a transfer is written", claim_tracker_write_transfer(message, sizeof message, fields, first, second) == 0);
+    check("the bytes behind it stay", message[141] == 0xee && message[143] == 0xee);
+
+    memset(out, 0xaa, sizeof out);
+    done = claim_tracker_transfer(calendar, 480, tables, 1824, book, balances, 4096, message, sizeof message, out, 34);
+    check("one byte short", done.number == 10 && done.book.day == 20230404 && done.book.count == 0 && done.claims == 0 && out[0] == 0xaa);
+    done = claim_tracker_transfer(calendar, 480, tables, 1824, book, balances, 4096, message, sizeof message, out, sizeof out);
+    check("the transfer", done.number == 0 && done.book.day == 20230404 && done.book.count == 1 && done.claims == 1);
+    check("the byte behind the claim stays", out[35] == 0xaa);
+    check("the answer", claim_tracker_write_answer(out + 35, sizeof out - 35, (struct claim_tracker_answer){done.number}) == 0);
+    check("document 01's hex example", memcmp(out, expected, sizeof expected) == 0 && out[41] == 0xaa);
+    book = done.book;
+
+    struct claim_tracker_transfer_reading transfer = claim_tracker_read_transfer(message, sizeof message);
+    check("a transfer read back", transfer.number == 0 && transfer.transfer.sender == 1 && transfer.transfer.receiver == 2
+                                      && transfer.transfer.security == 0 && transfer.transfer.class_ == 0 && transfer.transfer.code == 0
+                                      && transfer.transfer.par == 200000);
+    check("its lines", memcmp(transfer.first_line, first, 64) == 0 && memcmp(transfer.second_line, second, 64) == 0);
+    transfer = claim_tracker_read_transfer(message, 140);
+    check("a transfer cut short", transfer.number == 5 && transfer.transfer.par == 0 && transfer.first_line[0] == 0
+                                      && transfer.second_line[63] == 0);
+
+    struct claim_tracker_claim_reading claim = claim_tracker_read_claim(out, sizeof out);
+    check("the claim read back", claim.number == 0 && claim.claim.claim_type == 1 && claim.claim.outcome == 0 && claim.claim.payer == 1
+                                     && claim.claim.payee == 2 && claim.claim.security == 0 && claim.claim.row == 0
+                                     && claim.claim.transfer == 1 && claim.claim.interest == 100000 && claim.claim.principal == 0
+                                     && claim.claim.release == 20230417 && claim.claim.slot == 3);
+    uint8_t again[36];
+    memset(again, 0xbb, sizeof again);
+    check("the claim written again", claim_tracker_write_claim(again, sizeof again, claim.claim) == 0 && memcmp(again, out, 35) == 0
+                                         && again[35] == 0xbb);
+    check("a claim does not fit 34 bytes", claim_tracker_write_claim(again, 34, claim.claim) == 10);
+    claim = claim_tracker_read_claim(out + 35, 6);
+    check("an answer is no claim", claim.number == 5 && claim.claim.interest == 0 && claim.claim.slot == 0);
+    struct claim_tracker_answer_reading answer = claim_tracker_read_answer(out + 35, 6);
+    check("the answer read back", answer.number == 0 && answer.answer.number == 0);
+    check("an answer cut short", claim_tracker_read_answer(out + 35, 5).number == 5);
+
+    fields.code = 1;
+    fields.par = 15000;
+    memset(first, ' ', sizeof first);
+    claim_tracker_write_transfer(message, sizeof message, fields, first, second);
+    done = claim_tracker_open(calendar, 480, tables, 1824, balances, 4096, 20230331);
+    done = claim_tracker_transfer(calendar, 480, tables, 1824, done.book, balances, 4096, message, sizeof message, out, 0);
+    check("a loan's start", done.number == 0 && done.claims == 0 && done.book.count == 1 && balances[16 * 1 + 2] == 15000);
+    uint8_t close[4];
+    check("a close is written", claim_tracker_write_close(close, 4) == 0 && claim_tracker_read_close(close, 4) == 0);
+    check("a close does not fit 3 bytes", claim_tracker_write_close(close, 3) == 10);
+    check("a transfer is no close", claim_tracker_read_close(message, sizeof message) == 5);
+    done = claim_tracker_close(calendar, 480, tables, 1824, done.book, balances, 4096, close, 4, out, sizeof out);
+    claim = claim_tracker_read_claim(out, 35);
+    check("the close of 20230331", done.number == 0 && done.book.day == 20230403 && done.book.count == 1 && done.claims == 1);
+    check("April's claim on 15,000", claim.number == 0 && claim.claim.claim_type == 3 && claim.claim.payer == 2 && claim.claim.payee == 1
+                                         && claim.claim.transfer == 0 && claim.claim.interest == 7500);
+    done = claim_tracker_close(calendar, 479, tables, 1824, done.book, balances, 4096, close, 4, out, sizeof out);
+    check("a short calendar", done.number == 1 && done.book.day == 20230403 && done.claims == 0);
+
+    printf("%d passed, %d failed\n", passed, failed);
+    return failed != 0;
+}
