@@ -1,7 +1,7 @@
 -- The claims of a failed transfer, row by row: in sound tables the rows that the day has reached come first, so the eligible rows are
 -- those from a number on that have a Beneficiary Date after the Contract Date.
 use mathlib.Core.Path.{_≡_, refl, sym, ap, ap₂, _∙_}
-use mathlib.Core.Bool.{Bool, true, false, cond, not, _&&_, false≢true}
+use mathlib.Core.Bool.{Bool, true, false, cond, not, _&&_}
 use mathlib.Core.List.{List, [], _∷_, _++_, append-nil, append-assoc, map}
 use Prim.Native.Nat.{ℕ, zero, suc, _+_, _-_, _*_, _≤_, _<_}
 use native.Mathlib.Nat.{add-zero, zero-add, not-suc-le-zero, le-of-suc-le-suc, sub-zero, zero-sub}
@@ -26,7 +26,6 @@ use Rattle.tags.specs.ContractDateTag.{tagged, contractDate}
 use Rattle.days.specs.declared.Date.{Date}
 use Rattle.claims.specs.Amounts.{failType, claimOn}
 use Rattle.claims.specs.Fails.{maximumNumbers, maximumFor, eligibleIn, eligible, Due, due, fails, dues, transferParties, transferClaims}
-use Rattle.claims.specs.Passes.{Free}
 use Rattle.claims.proofs.Making.{type-word}
 use Rattle.claims.specs.Reached.{rowAt, leading, isReached, reachedRows, failClaim, Failing}
 
@@ -426,15 +425,3 @@ few-transfer calendar tables day number t tag = go (fails t tag)
     go : (b : Bool) → length (map claim (cond b (map (due failType) (eligible tables day t tag)) [])) ≤ 16
     go true = simp length-map (few-eligible tables day t tag)
     go false = omega arith
-
--- what a pass that only counts asks, and one that stores them where there is room
-pub free-count : (buffer calendar tables : List ℕ) (day number : ℕ) (t : Transfer) (tag : Tag)
-    → Free false buffer 0 (transferClaims calendar tables day number t tag)
-free-count buffer calendar tables day number t tag =
-    record { few = omega (arith, few-transfer calendar tables day number t tag); room = λ e. absurd (false≢true e) }
-
-pub free-store : (buffer calendar tables : List ℕ) (day number : ℕ) (t : Transfer) (tag : Tag)
-    → 35 * length (transferClaims calendar tables day number t tag) ≤ length buffer
-    → Free true buffer 0 (transferClaims calendar tables day number t tag)
-free-store buffer calendar tables day number t tag h =
-    record { few = omega (arith, few-transfer calendar tables day number t tag); room = λ e. omega arith }

@@ -1,2 +1,2 @@
 // The claims of transfers and closes (document 01, sections Fail claims, Close and Amounts, outcomes, release) as definitions with
-// their laws. They stand in specs/ and proofs/; the code is in the crate passes.
+// their laws. They stand in specs/ and proofs/; the code is in the crates amounts, fails and lending.

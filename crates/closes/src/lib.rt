@@ -43,11 +43,11 @@ pub fn close_sound(
     if next_day(calendar, next) == 0 {
         return book::refused(9, book);
     }
-    let n = passes::close::pass_close(false, claims, calendar, tables, day, next, balances);
+    let n = lending::pass_close(false, claims, calendar, tables, day, next, balances);
     if claims.len() < 35 * n {
         return book::refused(10, book);
     }
-    let m = passes::close::pass_close(true, claims, calendar, tables, day, next, balances);
+    let m = lending::pass_close(true, claims, calendar, tables, day, next, balances);
     let count = book.count;
     Done {
         number: 0,

@@ -2,7 +2,6 @@
 // written.
 ghost use mathlib.Core.Path.{_≡_};
 ghost use mathlib.Core.Bool.{true, _||_};
-ghost use Prim.Native.Nat.{_≤_, _<_};
 ghost use lib.Dec.{leb};
 ghost use lib.ListN.{length};
 ghost use Rattle.lists.specs.First.{firstOf};
@@ -94,12 +93,12 @@ fn transfer_read(
     }
     let day = book.day;
     let count = book.count + 1;
-    let n = passes::fails::transfer_claims(false, claims, calendar, tables, day, count, t, tag);
+    let n = fails::transfer_claims(false, claims, calendar, tables, day, count, t, tag);
     if claims.len() < 35 * n {
         return book::refused(10, book);
     }
     book::post(balances, t);
-    let m = passes::fails::transfer_claims(true, claims, calendar, tables, day, count, t, tag);
+    let m = fails::transfer_claims(true, claims, calendar, tables, day, count, t, tag);
     Done {
         number: 0,
         book: Book { day, count },

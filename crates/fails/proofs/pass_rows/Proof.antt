@@ -1,0 +1,56 @@
+-- The loop keeps that the pass over the first j rows is made.
+use Prim.Native.Nat.{_+_, _-_}
+use Rattle.claims.specs.Reached.{rowAt, failClaim}
+use Rattle.claims.proofs.RowLoops.{Passing, passing-start, passing-now, passing-more, passing-end, failing-below}
+use borrow.Author.Needs.{needs}
+use Rattle.fails.proofs.pass_rows.Statement.{statement}
+use Rattle.fails.proofs.pass_rows.Tie as tie
+
+abbrev Inv-loop : tie.InvT-loop
+Inv-loop write buffer₀ calendar tables day number t contract first count n₀ j₀ buffer n j =
+    Passing write buffer₀ buffer (λ j. failClaim calendar tables day number t contract (rowAt tables (t .security) (first + j))) count j n
+
+abbrev μ-loop : tie.MeasureT-loop
+μ-loop write buffer₀ calendar tables day number t contract first count n₀ j₀ buffer n j = count - j
+
+loop-holds : tie.Need-loop-holds Inv-loop μ-loop
+loop-holds c = passing-start _ _ _ _
+
+add-pass-row : tie.Need-add-pass-row Inv-loop μ-loop
+add-pass-row c = search needs
+
+pass-row-requires : tie.Need-pass-row-requires Inv-loop μ-loop
+pass-row-requires c κs = (
+  failing-below (search needs) (c .before .before .before .before .before .before .pre .0),
+  passing-now _ _ _ _ (c .before .before .before .before .before .before .pre .1) (c .before .before .loop .inv) (search needs),
+)
+
+add-j : tie.Need-add-j Inv-loop μ-loop
+add-j c = search needs
+
+loop-less : tie.Need-loop-less Inv-loop μ-loop
+loop-less c = search needs
+
+loop-again : tie.Need-loop-again Inv-loop μ-loop
+loop-again c = passing-more _ _ _ _ (c .before .before .before .before .before .before .before .before .before .pre .1) (c .before .before .before .before .before .loop .inv) (search needs) (c .before .before .pass-row .ensures) (c .before .before .pass-row .kept .1 .0)
+
+same-length : tie.Need-same-length Inv-loop μ-loop
+same-length c = c .before .loop .inv .kept
+
+returns : tie.Need-returns Inv-loop μ-loop
+returns c = passing-end _ _ _ _ (c .before .loop .inv) (c .loop-test .left)
+
+pub pass-rows-spec : {M : Type 1} → statement M
+pass-rows-spec =
+    tie.close
+    (tie.spec
+    Inv-loop
+    μ-loop
+    loop-holds
+    add-pass-row
+    pass-row-requires
+    add-j
+    loop-less
+    loop-again
+    same-length
+    returns)
