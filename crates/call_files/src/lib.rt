@@ -1,0 +1,213 @@
+// What the programs that try the calls share: files read whole, numbers and words taken from bytes, checksums, printed fields.
+// Bytes behind the end of a file count as 0, so every place may be asked for.
+ghost use Prim.Native.Nat.{_≤_, _<_};
+ghost use lib.ListN.{length};
+ghost use mathlib.Core.Path.{_≡_};
+ghost use Rattle.io.specs.Counts.{Counts};
+use libc::STDOUT_FILENO;
+
+pub mod steps;
+
+// The modulus of the checksums, a prime.
+const MODULUS: u64 = 4294967291;
+
+// The smaller of two numbers.
+pub fn least(a: usize, b: usize) -> usize
+    ensures { λ r. ⌜ (r ≤ a) × (r ≤ b) ⌝ }
+{
+    if a < b { a } else { b }
+}
+
+// The sum of two numbers, the largest number where it is larger.
+pub fn plus(a: usize, b: usize) -> usize {
+    if usize::MAX - a < b {
+        return usize::MAX;
+    }
+    a + b
+}
+
+// The place behind n words of four bytes.
+pub fn past_words(at: usize, n: u32) -> usize {
+    plus(at, 4 * (n as usize))
+}
+
+// The place behind n pairs of four and eight bytes.
+pub fn past_pairs(at: usize, n: u32) -> usize {
+    plus(at, 12 * (n as usize))
+}
+
+// How many of n bytes fit a buffer.
+pub fn fitting(n: usize, buffer: &[u8]) -> usize
+    ensures { λ r. ⌜ Counts r (now (buffer .entry)) ⌝ }
+{
+    least(n, buffer.len())
+}
+
+// The n bytes from a place on, fewer where the end comes first.
+pub fn part(s: &[u8], at: usize, n: usize) -> &[u8] {
+    let from = least(at, s.len());
+    let to = from + least(n, s.len() - from);
+    &s[from..to]
+}
+
+// The byte at a place.
+pub fn byte_at(s: &[u8], at: usize) -> u8 {
+    if at < s.len() { s[at] } else { 0 }
+}
+
+// The byte at a place as a number of 32 bits.
+fn wide_at(s: &[u8], at: usize) -> u32
+    ensures { λ r. ⌜ r < 256 ⌝ }
+{
+    byte_at(s, at) as u32
+}
+
+// The number of two bytes at a place.
+pub fn half_at(s: &[u8], at: usize) -> u16 {
+    (wide_at(s, at) + 256 * wide_at(s, plus(at, 1))) as u16
+}
+
+// The number of four bytes at a place.
+pub fn word_at(s: &[u8], at: usize) -> u32 {
+    let low = wide_at(s, at) + 256 * wide_at(s, plus(at, 1));
+    low + 65536 * wide_at(s, plus(at, 2)) + 16777216 * wide_at(s, plus(at, 3))
+}
+
+// The number of eight bytes at a place.
+pub fn double_at(s: &[u8], at: usize) -> u64 {
+    (word_at(s, at) as u64) + 4294967296 * (word_at(s, plus(at, 4)) as u64)
+}
+
+// Fills words with the numbers of four bytes each from a place on.
+pub fn words_at(s: &[u8], at: usize, words: &mut [u32]) {
+    let mut from = at;
+    let mut i: usize = 0;
+    while i < words.len() {
+        words[i] = word_at(s, from);
+        from = plus(from, 4);
+        i += 1;
+    }
+}
+
+// Fills bytes with those from a place on.
+pub fn bytes_at(s: &[u8], at: usize, bytes: &mut [u8]) {
+    let mut from = at;
+    let mut i: usize = 0;
+    while i < bytes.len() {
+        bytes[i] = byte_at(s, from);
+        from = plus(from, 1);
+        i += 1;
+    }
+}
+
+// Sets one word where it is there.
+fn set(words: &mut [u64], place: usize, value: u64) {
+    if place < words.len() {
+        words[place] = value;
+    }
+}
+
+// Sets the words that n pairs of a place of four bytes and a value of eight bytes name.
+pub fn pairs_at(s: &[u8], at: usize, n: u32, words: &mut [u64]) {
+    let mut from = at;
+    let mut i: u32 = 0;
+    while i < n {
+        set(
+            words,
+            word_at(s, from) as usize,
+            double_at(s, plus(from, 4)),
+        );
+        from = plus(from, 12);
+        i += 1;
+    }
+}
+
+// The checksum with one more number.
+fn mixed(sum: u64, n: u64) -> u64
+    requires { ⌜ sum < 4294967291 ⌝ }
+    ensures { λ r. ⌜ r < 4294967291 ⌝ }
+{
+    (sum * 257 + n % MODULUS + 1) % MODULUS
+}
+
+// A byte as a wide number.
+fn wide(b: u8) -> u64 {
+    b as u64
+}
+
+// The checksum of bytes.
+pub fn byte_sum(s: &[u8]) -> u64 {
+    let mut sum: u64 = 0;
+    let mut i: usize = 0;
+    while i < s.len() {
+        sum = mixed(sum, wide(s[i]));
+        i += 1;
+    }
+    sum
+}
+
+// The checksum of balances.
+pub fn balance_sum(s: &[u64]) -> u64 {
+    let mut sum: u64 = 0;
+    let mut i: usize = 0;
+    while i < s.len() {
+        sum = mixed(sum, s[i]);
+        i += 1;
+    }
+    sum
+}
+
+// Fills a buffer with the remainders of the places by 251.
+pub fn fill(s: &mut [u8]) {
+    let mut i: usize = 0;
+    while i < s.len() {
+        s[i] = (i % 251) as u8;
+        i += 1;
+    }
+}
+
+// Whether two runs of balances are the same.
+pub fn same_balances(a: &[u64], b: &[u64]) -> bool {
+    if a.len() != b.len() {
+        return false;
+    }
+    let mut i: usize = 0;
+    while i < a.len() {
+        if a[i] != b[i] {
+            return false;
+        }
+        i += 1;
+    }
+    true
+}
+
+// Reads a file to the start of a buffer and answers how many bytes it has, as far as the buffer holds them; 0 where it cannot be
+// read.
+pub fn read_file(path: &[u8], buffer: &mut [u8]) -> usize
+    ensures { λ r. ⌜ Counts r (now (buffer .exit)) ⌝ }
+{
+    let fd = os::open_read(path);
+    if fd < 0 {
+        os::fail(path);
+        return 0;
+    }
+    let n = io::read_full(fd, buffer);
+    libc::close(fd);
+    n
+}
+
+// Writes bytes.
+pub fn print(s: &[u8]) {
+    io::write_all(STDOUT_FILENO, s);
+}
+
+// Writes a space and a number.
+pub fn print_field(n: u64) {
+    print(b" ");
+    io::print_decimal(STDOUT_FILENO, n);
+}
+
+// Ends a line.
+pub fn print_end() {
+    print(b"\n");
+}

@@ -1,0 +1,83 @@
+// Files of steps: the calls of a run, with the tables and the saved books that they start from.
+// A file is its number of steps in four bytes, then the steps. A step is its kind in a byte, the length of its name in a byte, the
+// name, the length of its message in four bytes, the message, and the length of its claim buffer in four bytes. Kinds: 0 opens a book
+// (message: the day), 1 is a transfer, 2 a close, 3 sets calendar and tables (message: their words), 4 sets the book (message: day,
+// count, how many balances are not zero, and for each of these its place in four bytes and its par in eight).
+use crate::byte_at;
+use crate::pairs_at;
+use crate::part;
+use crate::plus;
+use crate::word_at;
+use crate::words_at;
+use book::Book;
+use book::Done;
+
+// Where the parts of a step stand.
+pub struct Step {
+    pub kind: u8,
+    pub name: usize,
+    pub name_length: usize,
+    pub message: usize,
+    pub message_length: usize,
+    pub room: usize,
+    pub next: usize,
+}
+
+// The step at a place.
+pub fn step_at(s: &[u8], at: usize) -> Step {
+    let name = plus(at, 2);
+    let name_length = byte_at(s, plus(at, 1)) as usize;
+    let length = plus(name, name_length);
+    let message = plus(length, 4);
+    let message_length = word_at(s, length) as usize;
+    let room = plus(message, message_length);
+    Step {
+        kind: byte_at(s, at),
+        name,
+        name_length,
+        message,
+        message_length,
+        room: word_at(s, room) as usize,
+        next: plus(room, 4),
+    }
+}
+
+// Whether a step is one of the three calls.
+pub fn is_call(step: Step) -> bool {
+    step.kind < 3
+}
+
+// Sets the calendar and the tables from a message.
+pub fn set_tables(message: &[u8], calendar: &mut [u32; 480], tables: &mut [u32; 1824]) {
+    words_at(message, 0, calendar);
+    words_at(message, 1920, tables);
+}
+
+// Sets the balances from a message and answers the book.
+pub fn set_book(message: &[u8], balances: &mut [u64; 4096]) -> Book {
+    book::clear(balances);
+    pairs_at(message, 12, word_at(message, 8), balances);
+    Book {
+        day: word_at(message, 0),
+        count: word_at(message, 4),
+    }
+}
+
+// The call of a kind.
+pub fn call(
+    kind: u8,
+    calendar: &[u32],
+    tables: &[u32],
+    book: Book,
+    balances: &mut [u64],
+    message: &[u8],
+    claims: &mut [u8],
+) -> Done {
+    if kind == 0 {
+        return opens::open(calendar, tables, balances, word_at(message, 0));
+    }
+    if kind == 1 {
+        return transfers::transfer(calendar, tables, book, balances, message, claims);
+    }
+    closes::close(calendar, tables, book, balances, message, claims)
+}

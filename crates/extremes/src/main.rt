@@ -1,0 +1,129 @@
+// Runs the steps of extremes.in: calls at the ends of their ranges, with claim buffers up to 2,150,401 bytes.
+// It writes a line for each call: its name, number, day, count and claims, and the checksums of the claim buffer and of the balances
+// after it. Before each call the claim buffer holds the remainders of its places by 251.
+use book::Book;
+use book::Done;
+use call_files::steps::Step;
+
+// Writes a call's line.
+fn print_call(name: &[u8], done: Done, claims: &[u8], balances: &[u64]) {
+    call_files::print(name);
+    call_files::print_field(done.number as u64);
+    call_files::print_field(done.book.day as u64);
+    call_files::print_field(done.book.count as u64);
+    call_files::print_field(done.claims as u64);
+    call_files::print_field(call_files::byte_sum(claims));
+    call_files::print_field(call_files::balance_sum(balances));
+    call_files::print_end();
+}
+
+// Makes a call, writes its line and answers the book after it.
+fn run_call(
+    s: &[u8],
+    step: Step,
+    calendar: &[u32],
+    tables: &[u32],
+    book: Book,
+    balances: &mut [u64],
+    claims: &mut [u8],
+) -> Book {
+    call_files::fill(claims);
+    let message = call_files::part(s, step.message, step.message_length);
+    let done = call_files::steps::call(
+        step.kind,
+        calendar,
+        tables,
+        book,
+        balances,
+        message,
+        claims,
+    );
+    print_call(
+        call_files::part(s, step.name, step.name_length),
+        done,
+        claims,
+        balances,
+    );
+    if step.kind == 0 {
+        if done.number != 0 {
+            return book;
+        }
+    }
+    done.book
+}
+
+// Takes a step and answers the book after it.
+fn take_step(
+    s: &[u8],
+    step: Step,
+    calendar: &mut [u32; 480],
+    tables: &mut [u32; 1824],
+    book: Book,
+    balances: &mut [u64; 4096],
+    claims: &mut [u8],
+) -> Book {
+    if step.kind == 3 {
+        let message = call_files::part(s, step.message, step.message_length);
+        call_files::steps::set_tables(message, calendar, tables);
+        return book;
+    }
+    if step.kind == 4 {
+        let message = call_files::part(s, step.message, step.message_length);
+        return call_files::steps::set_book(message, balances);
+    }
+    let room = call_files::fitting(step.room, claims);
+    run_call(
+        s,
+        step,
+        calendar,
+        tables,
+        book,
+        balances,
+        &mut claims[..room],
+    )
+}
+
+// Takes the steps of a file one after another, each on the book and balances that the last one left.
+fn take_steps(
+    s: &[u8],
+    calendar: &mut [u32; 480],
+    tables: &mut [u32; 1824],
+    balances: &mut [u64; 4096],
+    claims: &mut [u8],
+) {
+    let mut book = Book { day: 0, count: 0 };
+    let mut at: usize = 4;
+    let mut left = call_files::word_at(s, 0);
+    while 0 < left {
+        let step = call_files::steps::step_at(s, at);
+        book = take_step(s, step, calendar, tables, book, balances, claims);
+        at = step.next;
+        left -= 1;
+    }
+}
+
+// Takes the steps of a file with the whole claim buffer.
+fn take_all(
+    s: &[u8],
+    calendar: &mut [u32; 480],
+    tables: &mut [u32; 1824],
+    balances: &mut [u64; 4096],
+    claims: &mut [u8; 2150401],
+) {
+    take_steps(s, calendar, tables, balances, claims);
+}
+
+// Takes the steps of a file on tables and balances of zeros.
+fn run(s: &[u8]) {
+    let mut calendar = [0u32; 480];
+    let mut tables = [0u32; 1824];
+    let mut balances = [0u64; 4096];
+    let mut claims = [0u8; 2150401];
+    take_all(s, &mut calendar, &mut tables, &mut balances, &mut claims);
+}
+
+fn main() {
+    let mut file = [0u8; 524288];
+    let n = call_files::read_file(b"extremes.in", &mut file);
+    run(&file[..n]);
+}
