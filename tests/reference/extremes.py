@@ -1,0 +1,131 @@
+"""The calls at the ends of their ranges, by the reference.
+
+    python3 extremes.py REFERENCE_FOLDER STEPS_FILE
+
+writes the calls to STEPS_FILE (crates/extremes/data/extremes.in) and prints what the program extremes has to write for them
+(crates/extremes/stdout): for each call its name, number, day, count and claims, and the checksums of the claim buffer and of the
+balances after it.
+"""
+import sys
+
+import step_files
+
+ref, mk = step_files.reference_modules(sys.argv[1])
+steps = step_files.Steps(ref)
+LIMIT = 9_000_000_000
+FACTOR = 2_000_000_000
+PAIRS = [(lender, borrower) for lender in range(16) for borrower in range(16) if lender != borrower]
+EVERY_CLAIM = 16 * 16 * len(PAIRS)
+
+
+def show(name, result):
+    print(name, result.number, result.book.day, result.book.count, result.claims,
+          step_files.checksum(result.buffer), step_files.checksum(result.balances))
+
+
+def opening(name, day):
+    show(name, steps.open(name, day))
+
+
+def transfer(name, room, *fields, **more):
+    show(name, steps.transfer(name, mk.transfer(*fields, **more), room))
+
+
+def close(name, room):
+    show(name, steps.close(name, mk.close(), room))
+
+
+def balances_of(*entries):
+    words = [0] * 4096
+    for security, lender, borrower, par in entries:
+        words[ref.place(security, lender, borrower)] = par
+    return words
+
+
+def largest_amounts():
+    """Balances at the limit, factors at the limit, the count at its end."""
+    row = ref.Row(20230401, 20230401, 20230415, FACTOR, FACTOR, 0, 0)
+    steps.set_tables(mk.weekdays(), mk.tables_of({s: mk.security(s % 4 + 1, 1, [row]) for s in (0, 15)}))
+    steps.set_book(20230331, 0, balances_of((0, 1, 2, LIMIT - 100_000_000), (15, 15, 14, LIMIT)))
+    transfer("start-past-the-limit", 0, 15, 14, 15, 1, 1)
+    transfer("start-to-the-limit", 0, 1, 2, 0, 100_000_000, 1)
+    transfer("increase-past-the-limit", 0, 1, 2, 0, 1, 5)
+    transfer("decrease-above-nothing", 0, 1, 2, 0, 1, 3)
+    close("close-at-the-limit-one-byte-short", 69)
+    close("close-at-the-limit", 70)
+    transfer("return-from-the-limit", 0, 2, 1, 0, 100_000_000, 3)
+    transfer("fail-of-the-largest-par", 35, 3, 4, 0, 100_000_000, contract=20230331)
+    transfer("fail-of-the-smallest-par", 35, 3, 4, 15, 1, contract=20230331)
+    steps.set_book(20230404, 4_294_967_294, balances_of((0, 1, 2, LIMIT)))
+    transfer("last-transfer-number", 35, 3, 4, 0, 1, contract=20230331)
+    transfer("no-transfer-number-left", 35, 3, 4, 0, 1, contract=20230331)
+    close("close-with-the-count-at-its-end", 0)
+    steps.set_book(20230404, 0, balances_of((0, 1, 2, LIMIT + 1)))
+    close("balance-past-the-limit", 0)
+    steps.set_book(20230404, 0, balances_of((15, 15, 15, 1)))
+    close("balance-with-itself", 0)
+    steps.set_book(20230404, 7, [2 ** 64 - 1] * 4096)
+    transfer("largest-words", 0, 1, 2, 0, 1)
+    opening("opening-over-the-largest-words", 20230404)
+
+
+def last_days():
+    """The last two dates, and the first."""
+    rows = [ref.Row(20391201, 20391202, 20391230, 10_000_000, 20_000_000, 0, 0),
+            ref.Row(20391230, 20391230, 20391231, 10_000_000, 0, 0, 0)]
+    tables = mk.tables_of({7: mk.security(3, 1, rows)})
+    steps.set_tables(mk.only([20000101, 20391229, 20391230, 20391231]), tables)
+    opening("opening-on-the-first-date", 20000101)
+    opening("opening-on-the-last-date", 20391231)
+    opening("opening-before-the-last-date", 20391230)
+    transfer("fails-before-the-last-date", 70, 0, 15, 7, 1_000, contract=20391201)
+    close("close-before-the-last-date", 35)
+    opening("opening-two-before-the-last-date", 20391229)
+    transfer("start-two-before-the-last-date", 0, 0, 15, 7, 1_000, 1)
+    close("close-two-before-the-last-date", 35)
+    close("close-with-no-open-day-behind", 35)
+    steps.set_book(20391231, 0, [0] * 4096)
+    close("book-on-the-last-date", 0)
+    transfer("transfer-on-the-last-date", 0, 0, 15, 7, 1)
+    steps.set_tables(mk.only([20391230, 20391231]), tables)
+    opening("last-dates-alone", 20391230)
+    opening("last-date-alone", 20391231)
+    steps.set_tables(mk.only([20391231]), tables)
+    opening("one-open-day", 20391231)
+
+
+def every_row():
+    """All rows of all securities between two open days, for all pairs of accounts."""
+    def row(s, r):
+        year = 2001 + 2 * r
+        return ref.Row(10000 * year + 101 + s, 10000 * year + 102 + s, 10000 * (year + s // 2) + 1215,
+                       (0, 1, 4_999_999, FACTOR)[(s + r) % 4], (0, FACTOR, 123_456_789)[r % 3],
+                       int(r % 5 == 4), (0, 1 << s, 0xFFFF)[(s + 2 * r) % 3])
+
+    steps.set_tables(mk.only([20000103, 20330301, 20390104, 20391231]), mk.tables_of(
+        {s: mk.security(s % 4 + 1, s // 4 + 1, [row(s, r) for r in range(16)]) for s in range(16)}))
+    balances = balances_of(*((s, lender, borrower, 1 + (lender * 977 + borrower * 31 + s) * 2_000_003 % LIMIT)
+                             for s in range(16) for lender, borrower in PAIRS))
+    steps.set_book(20000103, 3, balances)
+    close("every-row-no-buffer", 0)
+    close("every-row-one-byte-short", 35 * EVERY_CLAIM - 1)
+    close("every-row", 35 * EVERY_CLAIM)
+    close("no-row-no-buffer", 0)
+    steps.set_book(20000103, 3, balances)
+    close("every-row-one-byte-over", 35 * EVERY_CLAIM + 1)
+    steps.set_book(20000103, 3, [0 if w // 16 % 16 == w % 16 else LIMIT for w in range(4096)])
+    close("every-row-at-the-limit", 35 * EVERY_CLAIM)
+    steps.set_book(20330301, 3, balances)
+    transfer("seven-rows-no-buffer", 0, 9, 8, 2, 77_777_777, contract=20000103)
+    transfer("seven-rows-one-byte-short", 244, 9, 8, 2, 77_777_777, contract=20000103)
+    transfer("seven-rows", 245, 9, 8, 2, 77_777_777, contract=20000103)
+    transfer("seven-rows-one-byte-over", 246, 9, 8, 2, 77_777_777, contract=20000103)
+    transfer("no-claims-no-buffer", 0, 9, 8, 2, 77_777_777, contract=20330301)
+    transfer("no-tag-no-buffer", 0, 9, 8, 2, 77_777_777)
+    close("close-to-the-end-no-buffer", 0)
+
+
+largest_amounts()
+last_days()
+every_row()
+steps.write(sys.argv[2])
