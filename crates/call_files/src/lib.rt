@@ -1,11 +1,12 @@
 // What the programs that try the calls share: files read whole, numbers and words taken from bytes, checksums, printed fields.
 // Bytes behind the end of a file count as 0, so every place may be asked for.
 ghost use Prim.Native.Nat.{_≤_, _<_};
-ghost use lib.ListN.{length};
-ghost use mathlib.Core.Path.{_≡_};
 ghost use Rattle.io.specs.Counts.{Counts};
+use book::Book;
+use book::Done;
 use libc::STDOUT_FILENO;
 
+pub mod entries;
 pub mod steps;
 
 // The modulus of the checksums, a prime.
@@ -38,6 +39,20 @@ pub fn past_pairs(at: usize, n: u32) -> usize {
 
 // How many of n bytes fit a buffer.
 pub fn fitting(n: usize, buffer: &[u8]) -> usize
+    ensures { λ r. ⌜ Counts r (now (buffer .entry)) ⌝ }
+{
+    least(n, buffer.len())
+}
+
+// How many of n words of 32 bits fit a buffer.
+pub fn fitting_words(n: usize, buffer: &[u32]) -> usize
+    ensures { λ r. ⌜ Counts r (now (buffer .entry)) ⌝ }
+{
+    least(n, buffer.len())
+}
+
+// How many of n balances fit a buffer.
+pub fn fitting_balances(n: usize, buffer: &[u64]) -> usize
     ensures { λ r. ⌜ Counts r (now (buffer .entry)) ⌝ }
 {
     least(n, buffer.len())
@@ -179,6 +194,25 @@ pub fn same_balances(a: &[u64], b: &[u64]) -> bool {
         i += 1;
     }
     true
+}
+
+// Makes a call: 0 opens a book on the day of the one given, 1 is a transfer, any other a close.
+pub fn call(
+    kind: u8,
+    calendar: &[u32],
+    tables: &[u32],
+    book: Book,
+    balances: &mut [u64],
+    message: &[u8],
+    claims: &mut [u8],
+) -> Done {
+    if kind == 0 {
+        return opens::open(calendar, tables, balances, book.day);
+    }
+    if kind == 1 {
+        return transfers::transfer(calendar, tables, book, balances, message, claims);
+    }
+    closes::close(calendar, tables, book, balances, message, claims)
 }
 
 // Reads a file to the start of a buffer and answers how many bytes it has, as far as the buffer holds them; 0 where it cannot be

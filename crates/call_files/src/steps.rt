@@ -4,6 +4,8 @@
 // (message: the day), 1 is a transfer, 2 a close, 3 sets calendar and tables (message: their words), 4 sets the book (message: day,
 // count, how many balances are not zero, and for each of these its place in four bytes and its par in eight).
 use crate::byte_at;
+use crate::call;
+use crate::fill;
 use crate::pairs_at;
 use crate::part;
 use crate::plus;
@@ -47,14 +49,19 @@ pub fn is_call(step: Step) -> bool {
     step.kind < 3
 }
 
+// The name of a step.
+pub fn name(s: &[u8], step: Step) -> &[u8] {
+    part(s, step.name, step.name_length)
+}
+
 // Sets the calendar and the tables from a message.
-pub fn set_tables(message: &[u8], calendar: &mut [u32; 480], tables: &mut [u32; 1824]) {
+fn set_tables(message: &[u8], calendar: &mut [u32; 480], tables: &mut [u32; 1824]) {
     words_at(message, 0, calendar);
     words_at(message, 1920, tables);
 }
 
 // Sets the balances from a message and answers the book.
-pub fn set_book(message: &[u8], balances: &mut [u64; 4096]) -> Book {
+fn set_book(message: &[u8], balances: &mut [u64; 4096]) -> Book {
     book::clear(balances);
     pairs_at(message, 12, word_at(message, 8), balances);
     Book {
@@ -63,21 +70,56 @@ pub fn set_book(message: &[u8], balances: &mut [u64; 4096]) -> Book {
     }
 }
 
-// The call of a kind.
-pub fn call(
-    kind: u8,
+// Takes a step that is no call and answers the book after it.
+pub fn set(
+    s: &[u8],
+    step: Step,
+    calendar: &mut [u32; 480],
+    tables: &mut [u32; 1824],
+    book: Book,
+    balances: &mut [u64; 4096],
+) -> Book {
+    let message = part(s, step.message, step.message_length);
+    if step.kind == 3 {
+        set_tables(message, calendar, tables);
+        return book;
+    }
+    set_book(message, balances)
+}
+
+// The book that a call is given: an opening's day stands in its message.
+fn given(kind: u8, message: &[u8], book: Book) -> Book {
+    if kind == 0 {
+        return Book {
+            day: word_at(message, 0),
+            count: 0,
+        };
+    }
+    book
+}
+
+// Makes the call of a step. Before it the claim buffer holds the remainders of its places by 251.
+pub fn make(
+    s: &[u8],
+    step: Step,
     calendar: &[u32],
     tables: &[u32],
     book: Book,
     balances: &mut [u64],
-    message: &[u8],
     claims: &mut [u8],
 ) -> Done {
+    fill(claims);
+    let message = part(s, step.message, step.message_length);
+    let book = given(step.kind, message, book);
+    call(step.kind, calendar, tables, book, balances, message, claims)
+}
+
+// The book after a call: a refused opening leaves the one that was there.
+pub fn book_after(kind: u8, book: Book, done: Done) -> Book {
     if kind == 0 {
-        return opens::open(calendar, tables, balances, word_at(message, 0));
+        if done.number != 0 {
+            return book;
+        }
     }
-    if kind == 1 {
-        return transfers::transfer(calendar, tables, book, balances, message, claims);
-    }
-    closes::close(calendar, tables, book, balances, message, claims)
+    done.book
 }

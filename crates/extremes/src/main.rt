@@ -3,6 +3,7 @@
 // after it. Before each call the claim buffer holds the remainders of its places by 251.
 use book::Book;
 use book::Done;
+use call_files::steps;
 use call_files::steps::Step;
 
 // Writes a call's line.
@@ -27,29 +28,9 @@ fn run_call(
     balances: &mut [u64],
     claims: &mut [u8],
 ) -> Book {
-    call_files::fill(claims);
-    let message = call_files::part(s, step.message, step.message_length);
-    let done = call_files::steps::call(
-        step.kind,
-        calendar,
-        tables,
-        book,
-        balances,
-        message,
-        claims,
-    );
-    print_call(
-        call_files::part(s, step.name, step.name_length),
-        done,
-        claims,
-        balances,
-    );
-    if step.kind == 0 {
-        if done.number != 0 {
-            return book;
-        }
-    }
-    done.book
+    let done = steps::make(s, step, calendar, tables, book, balances, claims);
+    print_call(steps::name(s, step), done, claims, balances);
+    steps::book_after(step.kind, book, done)
 }
 
 // Takes a step and answers the book after it.
@@ -62,14 +43,8 @@ fn take_step(
     balances: &mut [u64; 4096],
     claims: &mut [u8],
 ) -> Book {
-    if step.kind == 3 {
-        let message = call_files::part(s, step.message, step.message_length);
-        call_files::steps::set_tables(message, calendar, tables);
-        return book;
-    }
-    if step.kind == 4 {
-        let message = call_files::part(s, step.message, step.message_length);
-        return call_files::steps::set_book(message, balances);
+    if !steps::is_call(step) {
+        return steps::set(s, step, calendar, tables, book, balances);
     }
     let room = call_files::fitting(step.room, claims);
     run_call(
@@ -95,7 +70,7 @@ fn take_steps(
     let mut at: usize = 4;
     let mut left = call_files::word_at(s, 0);
     while 0 < left {
-        let step = call_files::steps::step_at(s, at);
+        let step = steps::step_at(s, at);
         book = take_step(s, step, calendar, tables, book, balances, claims);
         at = step.next;
         left -= 1;
@@ -122,8 +97,18 @@ fn run(s: &[u8]) {
     take_all(s, &mut calendar, &mut tables, &mut balances, &mut claims);
 }
 
+// Reads the file into a buffer and takes its steps.
+fn run_file(buffer: &mut [u8]) {
+    let n = call_files::read_file(b"extremes.in", buffer);
+    run(&buffer[..n]);
+}
+
+// The same with a whole buffer.
+fn run_whole(buffer: &mut [u8; 524288]) {
+    run_file(buffer);
+}
+
 fn main() {
-    let mut file = [0u8; 524288];
-    let n = call_files::read_file(b"extremes.in", &mut file);
-    run(&file[..n]);
+    let mut buffer = [0u8; 524288];
+    run_whole(&mut buffer);
 }

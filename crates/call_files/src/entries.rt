@@ -1,0 +1,101 @@
+// Files of single calls and of what they should give: an entry for each call, one after another, in the same order in both files.
+// An entry of the calls: the call in a byte (0 open, 1 transfer, 2 close); the number of calendar words in four bytes and the words;
+// the tables likewise; balances; day and count; the length of the message in four bytes and the message; the claim buffer likewise.
+// An entry of what they give: the number in two bytes; day, count and claims in four each; balances; the claim buffer.
+// Balances: how many words in four bytes, how many of them are not zero in four, and for each of these its place and its par.
+use crate::byte_at;
+use crate::half_at;
+use crate::past_pairs;
+use crate::past_words;
+use crate::plus;
+use crate::word_at;
+
+// A call: where its parts stand and how long they are.
+pub struct Entry {
+    pub kind: u8,
+    pub calendar: usize,
+    pub calendar_words: usize,
+    pub tables: usize,
+    pub table_words: usize,
+    pub balances: usize,
+    pub balance_words: usize,
+    pub day: u32,
+    pub count: u32,
+    pub message: usize,
+    pub message_length: usize,
+    pub buffer: usize,
+    pub buffer_length: usize,
+    pub next: usize,
+}
+
+// What a call should give.
+pub struct Expected {
+    pub number: u16,
+    pub day: u32,
+    pub count: u32,
+    pub claims: u32,
+    pub balances: usize,
+    pub balance_words: usize,
+    pub buffer: usize,
+    pub buffer_length: usize,
+    pub next: usize,
+}
+
+// The place behind balances.
+fn past_balances(s: &[u8], at: usize) -> usize {
+    past_pairs(plus(at, 8), word_at(s, plus(at, 4)))
+}
+
+// The place behind bytes with their length before them.
+fn past_bytes(s: &[u8], at: usize) -> usize {
+    plus(plus(at, 4), word_at(s, at) as usize)
+}
+
+// The call at a place.
+pub fn entry_at(s: &[u8], at: usize) -> Entry {
+    let calendar = plus(at, 1);
+    let tables = past_words(plus(calendar, 4), word_at(s, calendar));
+    let balances = past_words(plus(tables, 4), word_at(s, tables));
+    let book = past_balances(s, balances);
+    let message = plus(book, 8);
+    let buffer = past_bytes(s, message);
+    Entry {
+        kind: byte_at(s, at),
+        calendar: plus(calendar, 4),
+        calendar_words: word_at(s, calendar) as usize,
+        tables: plus(tables, 4),
+        table_words: word_at(s, tables) as usize,
+        balances,
+        balance_words: word_at(s, balances) as usize,
+        day: word_at(s, book),
+        count: word_at(s, plus(book, 4)),
+        message: plus(message, 4),
+        message_length: word_at(s, message) as usize,
+        buffer: plus(buffer, 4),
+        buffer_length: word_at(s, buffer) as usize,
+        next: past_bytes(s, buffer),
+    }
+}
+
+// What the call at a place should give.
+pub fn expected_at(s: &[u8], at: usize) -> Expected {
+    let balances = plus(at, 14);
+    let buffer = past_balances(s, balances);
+    Expected {
+        number: half_at(s, at),
+        day: word_at(s, plus(at, 2)),
+        count: word_at(s, plus(at, 6)),
+        claims: word_at(s, plus(at, 10)),
+        balances,
+        balance_words: word_at(s, balances) as usize,
+        buffer: plus(buffer, 4),
+        buffer_length: word_at(s, buffer) as usize,
+        next: past_bytes(s, buffer),
+    }
+}
+
+// Fills balances with those at a place.
+pub fn balances_at(s: &[u8], at: usize, balances: &mut [u64]) {
+    book::clear(balances);
+    crate::pairs_at(s, plus(at, 8), word_at(s, plus(at, 4)), balances);
+}

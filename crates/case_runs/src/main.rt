@@ -1,0 +1,166 @@
+// Runs the steps of case_runs.in: document 01's cases that no theorem states, and the examples of fail and securities lending
+// tracking of source document 001 (Clearing Memo 278), Attachment II.
+// It writes a line for each call: its name, number, day, count and claims; under it a line for each claim (type, outcome, payer,
+// payee, security, row, transfer number, interest, principal, release date, slot) and for each balance that is not zero (security,
+// lender, borrower, par).
+use book::Book;
+use book::Done;
+use call_files::print;
+use call_files::print_field;
+use call_files::steps;
+use call_files::steps::Step;
+use records::Claim;
+use records::ReadClaim;
+
+// Writes a claim's line.
+fn print_claim(c: Claim) {
+    print(b" claim");
+    print_field(c.claim_type as u64);
+    print_field(c.outcome as u64);
+    print_field(c.payer as u64);
+    print_field(c.payee as u64);
+    print_field(c.security as u64);
+    print_field(c.row as u64);
+    print_field(c.transfer as u64);
+    print_field(c.interest.0);
+    print_field(c.principal.0);
+    print_field(c.release as u64);
+    print_field(c.slot as u64);
+    call_files::print_end();
+}
+
+// Writes the line of the claim that bytes begin with.
+fn print_claim_at(s: &[u8]) {
+    match records::read_claim(s) {
+        ReadClaim::Is(c) => print_claim(c),
+        ReadClaim::Refused => print(b" no claim\n"),
+    }
+}
+
+// Writes the lines of the claims in a buffer.
+fn print_claims(claims: &[u8], n: usize) {
+    let mut at: usize = 0;
+    let mut i: usize = 0;
+    while i < n {
+        print_claim_at(call_files::part(claims, at, 35));
+        at = call_files::plus(at, 35);
+        i += 1;
+    }
+}
+
+// Writes the line of a word of the balances where it is not zero.
+fn print_balance(w: usize, par: u64) {
+    if par != 0 {
+        print(b" lent");
+        print_field((w / 256) as u64);
+        print_field((w / 16 % 16) as u64);
+        print_field((w % 16) as u64);
+        print_field(par);
+        call_files::print_end();
+    }
+}
+
+// Writes the lines of the balances.
+fn print_balances(balances: &[u64]) {
+    let mut w: usize = 0;
+    while w < balances.len() {
+        print_balance(w, balances[w]);
+        w += 1;
+    }
+}
+
+// Writes a call's lines.
+fn print_call(name: &[u8], done: Done, claims: &[u8], balances: &[u64]) {
+    print(name);
+    print_field(done.number as u64);
+    print_field(done.book.day as u64);
+    print_field(done.book.count as u64);
+    print_field(done.claims as u64);
+    call_files::print_end();
+    print_claims(claims, done.claims);
+    print_balances(balances);
+}
+
+// Makes a call, writes its lines and answers the book after it.
+fn run_call(
+    s: &[u8],
+    step: Step,
+    calendar: &[u32],
+    tables: &[u32],
+    book: Book,
+    balances: &mut [u64],
+    claims: &mut [u8],
+) -> Book {
+    let done = steps::make(s, step, calendar, tables, book, balances, claims);
+    print_call(steps::name(s, step), done, claims, balances);
+    steps::book_after(step.kind, book, done)
+}
+
+// Takes a step and answers the book after it.
+fn take_step(
+    s: &[u8],
+    step: Step,
+    calendar: &mut [u32; 480],
+    tables: &mut [u32; 1824],
+    book: Book,
+    balances: &mut [u64; 4096],
+    claims: &mut [u8],
+) -> Book {
+    if !steps::is_call(step) {
+        return steps::set(s, step, calendar, tables, book, balances);
+    }
+    let room = call_files::fitting(step.room, claims);
+    run_call(
+        s,
+        step,
+        calendar,
+        tables,
+        book,
+        balances,
+        &mut claims[..room],
+    )
+}
+
+// Takes the steps of a file one after another, each on the book and balances that the last one left.
+fn take_steps(
+    s: &[u8],
+    calendar: &mut [u32; 480],
+    tables: &mut [u32; 1824],
+    balances: &mut [u64; 4096],
+    claims: &mut [u8; 4096],
+) {
+    let mut book = Book { day: 0, count: 0 };
+    let mut at: usize = 4;
+    let mut left = call_files::word_at(s, 0);
+    while 0 < left {
+        let step = steps::step_at(s, at);
+        book = take_step(s, step, calendar, tables, book, balances, claims);
+        at = step.next;
+        left -= 1;
+    }
+}
+
+// Takes the steps of a file on tables and balances of zeros.
+fn run(s: &[u8]) {
+    let mut calendar = [0u32; 480];
+    let mut tables = [0u32; 1824];
+    let mut balances = [0u64; 4096];
+    let mut claims = [0u8; 4096];
+    take_steps(s, &mut calendar, &mut tables, &mut balances, &mut claims);
+}
+
+// Reads the file into a buffer and takes its steps.
+fn run_file(buffer: &mut [u8]) {
+    let n = call_files::read_file(b"case_runs.in", buffer);
+    run(&buffer[..n]);
+}
+
+// The same with a whole buffer.
+fn run_whole(buffer: &mut [u8; 262144]) {
+    run_file(buffer);
+}
+
+fn main() {
+    let mut buffer = [0u8; 262144];
+    run_whole(&mut buffer);
+}

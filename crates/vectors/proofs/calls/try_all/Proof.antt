@@ -1,0 +1,58 @@
+-- `try_all` is safe and ends: each turn has a larger index.
+use Prim.Native.Nat.{_-_}
+use borrow.Author.Needs.{needs}
+use Rattle.vectors.proofs.calls.try_all.Statement.{statement}
+use Rattle.vectors.proofs.calls.try_all.Tie as tie
+
+abbrev Inv-loop : tie.InvT-loop
+Inv-loop s t calendar₀ tables₀ balances₀ claims₀ left₀ totals₀ at₀ place₀ index₀ calendar tables balances claims left totals at place index = Unit {0}
+
+abbrev μ-loop : tie.MeasureT-loop
+μ-loop s t calendar₀ tables₀ balances₀ claims₀ left₀ totals₀ at₀ place₀ index₀ calendar tables balances claims left totals at place index = 4294967295 - index
+
+loop-holds : tie.Need-loop-holds Inv-loop μ-loop
+loop-holds c = search needs
+
+entry-at-requires : tie.Need-entry-at-requires Inv-loop μ-loop
+entry-at-requires c κs = search needs
+
+expected-at-requires : tie.Need-expected-at-requires Inv-loop μ-loop
+expected-at-requires c κs = search needs
+
+try-entry-requires : tie.Need-try-entry-requires Inv-loop μ-loop
+try-entry-requires c κs = search needs
+
+counted-requires : tie.Need-counted-requires Inv-loop μ-loop
+counted-requires c κs = search needs
+
+add-index : tie.Need-add-index Inv-loop μ-loop
+add-index c = search needs
+
+loop-less : tie.Need-loop-less Inv-loop μ-loop
+loop-less c = search needs
+
+loop-again : tie.Need-loop-again Inv-loop μ-loop
+loop-again c = search needs
+
+returns : tie.Need-returns Inv-loop μ-loop
+returns c = search needs
+
+returns-2 : tie.Need-returns-2 Inv-loop μ-loop
+returns-2 c = search needs
+
+pub try-all-spec : {M : Type 1} → statement M
+try-all-spec =
+    tie.close
+    (tie.spec
+    Inv-loop
+    μ-loop
+    loop-holds
+    entry-at-requires
+    expected-at-requires
+    try-entry-requires
+    counted-requires
+    add-index
+    loop-less
+    loop-again
+    returns
+    returns-2)

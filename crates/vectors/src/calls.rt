@@ -1,0 +1,286 @@
+// The vectors of single calls: calls.in holds the calls, calls.expected what they should give.
+// A line is written for each call that differs, with its place in the files counted from 0 and what differs, and then how many
+// agree and how many differ.
+use book::Book;
+use book::Done;
+use call_files::entries::Entry;
+use call_files::entries::Expected;
+use call_files::print;
+use check::same;
+use libc::STDOUT_FILENO;
+
+// Which parts of what a call gives differ from what it should give.
+struct Differences {
+    number: bool,
+    day: bool,
+    count: bool,
+    claims: bool,
+    balances: bool,
+    buffer: bool,
+}
+
+// How many calls agree and how many differ.
+struct Totals {
+    agree: u32,
+    differ: u32,
+}
+
+// Whether anything differs.
+fn differs(d: Differences) -> bool {
+    if d.number {
+        return true;
+    }
+    if d.day {
+        return true;
+    }
+    if d.count {
+        return true;
+    }
+    if d.claims {
+        return true;
+    }
+    if d.balances {
+        return true;
+    }
+    d.buffer
+}
+
+// Writes a word where a part differs.
+fn print_word(is_different: bool, word: &[u8]) {
+    if is_different {
+        print(word);
+    }
+}
+
+// Writes the line of a call that differs.
+fn print_differences(index: u32, d: Differences) {
+    print(b"call");
+    call_files::print_field(index as u64);
+    print(b" differs:");
+    print_word(d.number, b" number");
+    print_word(d.day, b" day");
+    print_word(d.count, b" count");
+    print_word(d.claims, b" claims");
+    print_word(d.balances, b" balances");
+    print_word(d.buffer, b" buffer");
+    call_files::print_end();
+}
+
+// Fills a call's arguments.
+fn load(
+    s: &[u8],
+    call: Entry,
+    calendar: &mut [u32],
+    tables: &mut [u32],
+    balances: &mut [u64],
+    claims: &mut [u8],
+) {
+    call_files::words_at(s, call.calendar, calendar);
+    call_files::words_at(s, call.tables, tables);
+    call_files::entries::balances_at(s, call.balances, balances);
+    call_files::bytes_at(s, call.buffer, claims);
+}
+
+// Makes a call on its arguments.
+fn make(
+    s: &[u8],
+    call: Entry,
+    calendar: &[u32],
+    tables: &[u32],
+    balances: &mut [u64],
+    claims: &mut [u8],
+) -> Done {
+    let message = call_files::part(s, call.message, call.message_length);
+    let book = Book {
+        day: call.day,
+        count: call.count,
+    };
+    call_files::call(call.kind, calendar, tables, book, balances, message, claims)
+}
+
+// Fills a call's arguments and makes it.
+fn run_call(
+    s: &[u8],
+    call: Entry,
+    calendar: &mut [u32],
+    tables: &mut [u32],
+    balances: &mut [u64],
+    claims: &mut [u8],
+) -> Done {
+    load(s, call, calendar, tables, balances, claims);
+    make(s, call, calendar, tables, balances, claims)
+}
+
+// What differs between what a call gave and left and what it should; `left` gets the balances that it should leave.
+fn compare(
+    done: Done,
+    balances: &[u64],
+    claims: &[u8],
+    t: &[u8],
+    expected: Expected,
+    left: &mut [u64],
+) -> Differences {
+    call_files::entries::balances_at(t, expected.balances, left);
+    let buffer = call_files::part(t, expected.buffer, expected.buffer_length);
+    Differences {
+        number: done.number != expected.number,
+        day: done.book.day != expected.day,
+        count: done.book.count != expected.count,
+        claims: done.claims != expected.claims as usize,
+        balances: !call_files::same_balances(balances, left),
+        buffer: !same(claims, buffer),
+    }
+}
+
+// Makes a call and compares what it gives.
+fn try_call(
+    s: &[u8],
+    call: Entry,
+    t: &[u8],
+    expected: Expected,
+    calendar: &mut [u32],
+    tables: &mut [u32],
+    balances: &mut [u64],
+    claims: &mut [u8],
+    left: &mut [u64],
+) -> Differences {
+    let done = run_call(s, call, calendar, tables, balances, claims);
+    compare(done, balances, claims, t, expected, left)
+}
+
+// Lends a call the parts of the buffers that it names, and compares what it gives.
+fn try_entry(
+    s: &[u8],
+    call: Entry,
+    t: &[u8],
+    expected: Expected,
+    calendar: &mut [u32],
+    tables: &mut [u32],
+    balances: &mut [u64],
+    claims: &mut [u8],
+    left: &mut [u64],
+) -> Differences {
+    let c = call_files::fitting_words(call.calendar_words, calendar);
+    let n = call_files::fitting_words(call.table_words, tables);
+    let b = call_files::fitting_balances(call.balance_words, balances);
+    let k = call_files::fitting(call.buffer_length, claims);
+    let e = call_files::fitting_balances(expected.balance_words, left);
+    try_call(
+        s,
+        call,
+        t,
+        expected,
+        &mut calendar[..c],
+        &mut tables[..n],
+        &mut balances[..b],
+        &mut claims[..k],
+        &mut left[..e],
+    )
+}
+
+// The totals with one more call.
+fn counted(totals: Totals, index: u32, d: Differences) -> Totals {
+    if differs(d) {
+        print_differences(index, d);
+        return Totals {
+            agree: totals.agree,
+            differ: more(totals.differ),
+        };
+    }
+    Totals {
+        agree: more(totals.agree),
+        differ: totals.differ,
+    }
+}
+
+// One more, up to the largest number.
+fn more(n: u32) -> u32 {
+    if n < 4294967295 { n + 1 } else { n }
+}
+
+// Tries the calls of a file, one after another.
+fn try_all(
+    s: &[u8],
+    t: &[u8],
+    calendar: &mut [u32; 512],
+    tables: &mut [u32; 1856],
+    balances: &mut [u64; 4128],
+    claims: &mut [u8; 16384],
+    left: &mut [u64; 4128],
+) -> Totals {
+    let mut totals = Totals {
+        agree: 0,
+        differ: 0,
+    };
+    let mut at: usize = 0;
+    let mut place: usize = 0;
+    let mut index: u32 = 0;
+    while index < 4294967295 {
+        if s.len() <= at {
+            break;
+        }
+        let call = call_files::entries::entry_at(s, at);
+        let expected = call_files::entries::expected_at(t, place);
+        let d = try_entry(
+            s,
+            call,
+            t,
+            expected,
+            calendar,
+            tables,
+            balances,
+            claims,
+            left,
+        );
+        totals = counted(totals, index, d);
+        at = call.next;
+        place = expected.next;
+        index += 1;
+    }
+    totals
+}
+
+// Tries the calls of a file with buffers that hold their arguments.
+fn try_file(s: &[u8], t: &[u8]) -> Totals {
+    let mut calendar = [0u32; 512];
+    let mut tables = [0u32; 1856];
+    let mut balances = [0u64; 4128];
+    let mut left = [0u64; 4128];
+    let mut claims = [0u8; 16384];
+    try_all(
+        s,
+        t,
+        &mut calendar,
+        &mut tables,
+        &mut balances,
+        &mut claims,
+        &mut left,
+    )
+}
+
+// Writes how many calls agree and how many differ.
+fn print_totals(totals: Totals) {
+    io::print_decimal(STDOUT_FILENO, totals.agree as u64);
+    print(b" calls agree,");
+    call_files::print_field(totals.differ as u64);
+    print(b" differ\n");
+}
+
+// Reads the two files and tries the calls.
+fn try_stored(calls: &mut [u8], expected: &mut [u8]) {
+    let n = call_files::read_file(b"calls.in", calls);
+    let m = call_files::read_file(b"calls.expected", expected);
+    print_totals(try_file(&calls[..n], &expected[..m]));
+}
+
+// The same with whole buffers.
+fn try_whole(calls: &mut [u8; 1048576], expected: &mut [u8; 262144]) {
+    try_stored(calls, expected);
+}
+
+// Tries the stored calls and writes how many agree.
+pub fn try_calls() {
+    let mut calls = [0u8; 1048576];
+    let mut expected = [0u8; 262144];
+    try_whole(&mut calls, &mut expected);
+}

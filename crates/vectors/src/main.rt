@@ -1,0 +1,6 @@
+// Tries stored vectors: each is run, and what it gives is compared with what it should give.
+mod calls;
+
+fn main() {
+    calls::try_calls();
+}

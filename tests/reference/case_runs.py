@@ -1,0 +1,130 @@
+"""Document 01's cases that no theorem states, its mistakes to rule out, and the fail and lending examples of source document 001
+(Clearing Memo 278), Attachment II, by the reference.
+
+    python3 case_runs.py REFERENCE_FOLDER STEPS_FILE
+
+writes the calls to STEPS_FILE (crates/case_runs/data/case_runs.in) and prints what the program case_runs has to write for them
+(crates/case_runs/stdout). Years and factors of the memo's examples are those of the reference's cases.py. Each run is made by the
+reference's tally and its direct calls side by side.
+"""
+import sys
+
+import step_files
+
+ref, mk = step_files.reference_modules(sys.argv[1])
+import cases  # noqa: E402
+
+steps = step_files.Steps(ref)
+ROOM = 4096
+W, X, Y, Z = 3, 0, 1, 2      # the memo's banks
+CALENDAR = mk.weekdays()
+
+
+class Run:
+    """A run: calendar and tables, an opening, then calls on the book and balances that the last one left."""
+
+    def __init__(self, name, day, tables, calendar=CALENDAR):
+        self.name = name
+        self.both = ref.Both()
+        steps.set_tables(calendar, tables)
+        self.both.open(calendar, tables, day)
+        self.show("opening", steps.open(name + "-opening", day))
+
+    def show(self, name, result):
+        print("%s-%s" % (self.name, name), result.number, *result.book, result.claims)
+        for claim in ref.read_claims(result.buffer, result.claims):
+            print(" claim", *claim)
+        for w, par in enumerate(result.balances):
+            if par:
+                print(" lent", w // 256, w // 16 % 16, w % 16, par)
+
+    def made(self, name, result, tallied):
+        assert result == tallied, name
+        self.both.check_owed()
+        self.show(name, result)
+
+    def transfer(self, name, *fields, **more):
+        message = mk.transfer(*fields, **more)
+        tallied = self.both.transfer(steps.calendar, steps.tables, message, step_files.pattern(ROOM))
+        self.made(name, steps.transfer("%s-%s" % (self.name, name), message, ROOM), tallied)
+
+    def close(self, name):
+        tallied = self.both.close(steps.calendar, steps.tables, mk.close(), step_files.pattern(ROOM))
+        self.made(name, steps.close("%s-%s" % (self.name, name), mk.close(), ROOM), tallied)
+
+
+def document_cases():
+    """Tags that end at once, and tags across both lines: cut within the opener there is none."""
+    run = Run("tag", 20230404, mk.cases_tables())
+    run.transfer("with-its-end-straight-after", 1, 2, 0, 200_000, line1=b"{98A:CNTR/}")
+    run.transfer("with-its-end-straight-after-in-line-2", 1, 2, 0, 200_000, line2=b"{98A:CNTR/}")
+    tag = mk.tag(20230315)
+    for cut in range(1, len(tag)):
+        name = "cut-within-its-opener-%d" if cut < len(ref.OPENER) else "cut-behind-its-opener-%d"
+        run.transfer(name % cut, 1, 2, 0, 200_000, line1=b"x" * (64 - cut) + tag[:cut], line2=tag[cut:])
+    run.transfer("at-the-end-of-line-1", 1, 2, 0, 200_000, line1=b"x" * (64 - len(tag)) + tag)
+    run.transfer("at-the-end-of-line-2", 1, 2, 0, 200_000, line2=b"x" * (64 - len(tag)) + tag)
+
+
+def mistakes():
+    """The mistakes to rule out."""
+    run = Run("edits", 20230404, mk.cases_tables())
+    run.transfer("contract-date-is-a-beneficiary-date", 1, 2, 0, 200_000, contract=20230401)
+    for code in range(1, 7):
+        run.transfer("of-code-%d" % code, 1, 2, 0, 200_000, code, contract=20230405)
+    run.transfer("loan-with-a-tag", 1, 2, 0, 200_000, 1, contract=20230315)
+    rows = [ref.Row(20220001 + 100 * m, 20220001 + 100 * m, 20220015 + 100 * m, 1_000_000 * m, 0, 0, 0)
+            for m in range(1, 13)]
+    for kind, frequency in ((1, 1), (1, 2), (2, 3), (2, 4), (3, 2), (4, 1)):
+        run = Run("rows-of-type-%d-frequency-%d" % (kind, frequency), 20221104,
+                  mk.tables_of({5: mk.security(kind, frequency, rows)}))
+        run.transfer("most-recent", 1, 2, 5, 100, contract=20211231)
+        run.transfer("after-the-contract-date", 1, 2, 5, 100, contract=20220930)
+    run = Run("loans-each-way", 20230331, mk.cases_tables())
+    run.transfer("lent", 1, 2, 0, 700, 1)
+    run.transfer("borrowed", 2, 1, 0, 300, 1)
+    run.close("close-over-a-saturday")
+
+
+def memo_fails():
+    """Fail tracking, examples 1 to 7."""
+    mbs = mk.tables_of({0: mk.security(3, 1, cases.monthly(2023, (2, 3, 4, 5)))})
+    mbs_2024 = mk.tables_of({0: mk.security(3, 1, cases.monthly(2024, (2, 3, 4, 5)))})
+    treasury = mk.tables_of({0: mk.security(1, 3, cases.same_day((20211015, 20220415, 20221015, 20230415, 20231015)))})
+    debt = mk.tables_of({0: mk.security(2, 2, cases.same_day((20221010, 20230110, 20230410, 20230710, 20231010)))})
+    for name, tables, settlement, contract, sender, receiver, par in (
+            ("1", mbs, 20230320, 20230315, W, X, 100_000),
+            ("2", mbs_2024, 20240404, 20240315, Y, Z, 200_000),
+            ("2-in-2023", mbs, 20230404, 20230315, Y, Z, 200_000),
+            ("3", mbs, 20230420, 20230315, X, Z, 300_000),
+            ("4", mbs, 20230509, 20230315, X, Z, 400_000),
+            ("5", treasury, 20230320, 20230315, W, X, 100_000),
+            ("6", treasury, 20230420, 20230315, Y, Z, 200_000),
+            ("7", debt, 20230815, 20230305, Y, X, 300_000)):
+        run = Run("fail-example-" + name, settlement, tables)
+        run.transfer("transfer", sender, receiver, 0, par, contract=contract)
+
+
+def memo_lending():
+    """Securities lending tracking, examples 1 to 3, each on what the last one left."""
+    rows = cases.monthly(2024, (1, 2, 3))
+    cusip_a, cusip_b = 0, 1
+    run = Run("lending", 20240129, mk.tables_of({s: mk.security(3, 1, rows) for s in (cusip_a, cusip_b)}))
+    run.transfer("example-1-a", X, Y, cusip_a, 50_000, 1)
+    run.transfer("example-1-b", Z, X, cusip_b, 40_000, 1)
+    run.transfer("example-1-c", Y, X, cusip_a, 20_000, 2)
+    run.close("example-1-close")
+    run.transfer("example-2-a", X, Z, cusip_b, 50_000, 1)
+    run.transfer("example-2-b", Y, X, cusip_a, 15_000, 6)
+    run.close("example-2-close")
+    run.transfer("example-3-a", X, Z, cusip_b, 30_000, 3)
+    run.close("example-3-close")
+    run.transfer("on-the-record-date", X, Y, cusip_a, 1_000, 5)
+    run.close("after-the-record-date")
+
+
+document_cases()
+mistakes()
+memo_fails()
+memo_lending()
+steps.write(sys.argv[2])
