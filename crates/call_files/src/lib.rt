@@ -1,5 +1,7 @@
 // What the programs that try the calls share: files read whole, numbers and words taken from bytes, checksums, printed fields.
 // Bytes behind the end of a file count as 0, so every place may be asked for.
+ghost use mathlib.Core.Path.{_≡_};
+ghost use mathlib.Core.Bool.{true};
 ghost use Prim.Native.Nat.{_≤_, _<_};
 ghost use Rattle.io.specs.Counts.{Counts};
 use book::Book;
@@ -182,7 +184,9 @@ pub fn fill(s: &mut [u8]) {
 }
 
 // Whether two runs of balances are the same.
-pub fn same_balances(a: &[u64], b: &[u64]) -> bool {
+pub fn same_balances(a: &[u64], b: &[u64]) -> bool
+    ensures { λ r. ⌜ (r ≡ true → now (a .entry) ≡ now (b .entry)) ⌝ }
+{
     if a.len() != b.len() {
         return false;
     }
