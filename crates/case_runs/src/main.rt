@@ -155,7 +155,7 @@ fn run_file(buffer: &mut [u8]) {
     run(&buffer[..n]);
 }
 
-// The same with a whole buffer.
+// The same with a whole buffer. The array is handed on by reference first, so that its elements stay out of the proofs.
 fn run_whole(buffer: &mut [u8; 262144]) {
     run_file(buffer);
 }

@@ -77,7 +77,8 @@ fn take_steps(
     }
 }
 
-// Takes the steps of a file with the whole claim buffer.
+// Takes the steps of a file with the whole claim buffer. The array is handed on by reference first, so that its elements stay out of
+// the proofs.
 fn take_all(
     s: &[u8],
     calendar: &mut [u32; 480],
@@ -103,7 +104,7 @@ fn run_file(buffer: &mut [u8]) {
     run(&buffer[..n]);
 }
 
-// The same with a whole buffer.
+// The same with a whole buffer, handed on likewise.
 fn run_whole(buffer: &mut [u8; 524288]) {
     run_file(buffer);
 }

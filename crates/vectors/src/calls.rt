@@ -198,7 +198,7 @@ fn more(n: u32) -> u32 {
     if n < 4294967295 { n + 1 } else { n }
 }
 
-// Tries the calls of a file, one after another.
+// Tries the calls of a file, one after another. A proved loop has to end, so it counts them, up to more than a file holds.
 fn try_all(
     s: &[u8],
     t: &[u8],
@@ -273,7 +273,7 @@ fn try_stored(calls: &mut [u8], expected: &mut [u8]) {
     print_totals(try_file(&calls[..n], &expected[..m]));
 }
 
-// The same with whole buffers.
+// The same with whole buffers. The arrays are handed on by reference first, so that their elements stay out of the proofs.
 fn try_whole(calls: &mut [u8; 1048576], expected: &mut [u8; 262144]) {
     try_stored(calls, expected);
 }
