@@ -1,6 +1,6 @@
 // The vectors of single calls: calls.in holds the calls, calls.expected what they should give.
-// A line is written for each call that differs, with its place in the files counted from 0 and what differs, and then how many
-// agree and how many differ.
+// A line is written for each call that differs, with its place in the files counted from 0 and what differs, and for a file that does
+// not end with its last entry; then how many agree and how many differ.
 use book::Book;
 use book::Done;
 use call_files::entries::Entry;
@@ -111,7 +111,27 @@ fn run_call(
     make(s, call, calendar, tables, balances, claims)
 }
 
-// What differs between what a call gave and left and what it should; `left` gets the balances that it should leave.
+// Whether a claim buffer is the one that stands in a file, length and bytes.
+fn same_buffer(claims: &[u8], t: &[u8], expected: Expected) -> bool {
+    if claims.len() != expected.buffer_length {
+        return false;
+    }
+    same(
+        claims,
+        call_files::part(t, expected.buffer, expected.buffer_length),
+    )
+}
+
+// Whether balances are those that stand in a file, their number and their words; `left` gets the words of the file.
+fn same_words(balances: &[u64], t: &[u8], expected: Expected, left: &mut [u64]) -> bool {
+    if balances.len() != expected.balance_words {
+        return false;
+    }
+    call_files::entries::balances_at(t, expected.balances, left);
+    call_files::same_balances(balances, left)
+}
+
+// What differs between what a call gave and left and what it should.
 fn compare(
     done: Done,
     balances: &[u64],
@@ -120,15 +140,13 @@ fn compare(
     expected: Expected,
     left: &mut [u64],
 ) -> Differences {
-    call_files::entries::balances_at(t, expected.balances, left);
-    let buffer = call_files::part(t, expected.buffer, expected.buffer_length);
     Differences {
         number: done.number != expected.number,
         day: done.book.day != expected.day,
         count: done.book.count != expected.count,
         claims: done.claims != expected.claims as usize,
-        balances: !call_files::same_balances(balances, left),
-        buffer: !same(claims, buffer),
+        balances: !same_words(balances, t, expected, left),
+        buffer: !same_buffer(claims, t, expected),
     }
 }
 
@@ -198,6 +216,19 @@ fn more(n: u32) -> u32 {
     if n < 4294967295 { n + 1 } else { n }
 }
 
+// The totals where the files end: one more that differs for a file that does not end with its last entry.
+fn ended(totals: Totals, at: usize, length: usize, file: &[u8]) -> Totals {
+    if at == length {
+        return totals;
+    }
+    print(file);
+    print(b" does not end with its last entry\n");
+    Totals {
+        agree: totals.agree,
+        differ: more(totals.differ),
+    }
+}
+
 // Tries the calls of a file, one after another. A proved loop has to end, so it counts them, up to more than a file holds.
 fn try_all(
     s: &[u8],
@@ -237,7 +268,8 @@ fn try_all(
         place = expected.next;
         index += 1;
     }
-    totals
+    let totals = ended(totals, at, s.len(), b"calls.in");
+    ended(totals, place, t.len(), b"calls.expected")
 }
 
 // Tries the calls of a file with buffers that hold their arguments.

@@ -5,10 +5,10 @@ use Rattle.vectors.proofs.calls.try_all.Statement.{statement}
 use Rattle.vectors.proofs.calls.try_all.Tie as tie
 
 abbrev Inv-loop : tie.InvT-loop
-Inv-loop s t calendar₀ tables₀ balances₀ claims₀ left₀ totals₀ at₀ place₀ index₀ calendar tables balances claims left totals at place index = Unit {0}
+Inv-loop s t calendar₀ tables₀ balances₀ claims₀ left₀ totals₀ at₀ place₀ index₀ t16 t17 calendar tables balances claims left totals at place index = Unit {0}
 
 abbrev μ-loop : tie.MeasureT-loop
-μ-loop s t calendar₀ tables₀ balances₀ claims₀ left₀ totals₀ at₀ place₀ index₀ calendar tables balances claims left totals at place index = 4294967295 - index
+μ-loop s t calendar₀ tables₀ balances₀ claims₀ left₀ totals₀ at₀ place₀ index₀ t16 t17 calendar tables balances claims left totals at place index = 4294967295 - index
 
 loop-holds : tie.Need-loop-holds Inv-loop μ-loop
 loop-holds c = search needs
@@ -34,11 +34,20 @@ loop-less c = search needs
 loop-again : tie.Need-loop-again Inv-loop μ-loop
 loop-again c = search needs
 
+slice-aggregate-ended : tie.Need-slice-aggregate-ended Inv-loop μ-loop
+slice-aggregate-ended c = search needs
+
+ended-requires : tie.Need-ended-requires Inv-loop μ-loop
+ended-requires c κs = search needs
+
+slice-aggregate-ended-2 : tie.Need-slice-aggregate-ended-2 Inv-loop μ-loop
+slice-aggregate-ended-2 c = search needs
+
+ended-requires-2 : tie.Need-ended-requires-2 Inv-loop μ-loop
+ended-requires-2 c κs = search needs
+
 returns : tie.Need-returns Inv-loop μ-loop
 returns c = search needs
-
-returns-2 : tie.Need-returns-2 Inv-loop μ-loop
-returns-2 c = search needs
 
 pub try-all-spec : {M : Type 1} → statement M
 try-all-spec =
@@ -54,5 +63,8 @@ try-all-spec =
     add-index
     loop-less
     loop-again
-    returns
-    returns-2)
+    slice-aggregate-ended
+    ended-requires
+    slice-aggregate-ended-2
+    ended-requires-2
+    returns)
