@@ -1,17 +1,17 @@
 -- One claim as the code makes and stores it: its fields gathered, and its record put into a part of the buffer.
 use mathlib.Core.Path.{_≡_, sym, ap, _∙_}
-use mathlib.Core.List.{List, [], _++_, append-nil}
+use mathlib.Core.List.{List, [], _++_}
 use Prim.Native.Nat.{ℕ, _+_, _-_, _*_, _≤_}
 use native.Mathlib.Nat.{add-zero}
 use native.Mathlib.Omega.{arith}
-use lib.ListN.{length, take, drop, getD, length-drop, drop-of-length-le}
-use lib.Seq.{take-all, drop-drop, getD-take, getD-drop}
+use lib.ListN.{length, take, drop, getD}
+use lib.Seq.{getD-take, getD-drop}
 use Rattle.lists.specs.Put.{put}
 use Rattle.records.specs.declared.Cents.{Cents}
 use Rattle.records.specs.declared.Claim.{Claim}
 use Rattle.records.specs.declared.Wrote.{Wrote}
 use Rattle.records.specs.MessageRecords.{claimKind, claimValues, size, Writing, writing, wroteNumber}
-use Rattle.records.proofs.Answers.{wrote-whole}
+use Rattle.records.proofs.Answers.{stored-record}
 use Rattle.securities.specs.Securities.{securityOf, typeOf, rowOf}
 use Rattle.claims.specs.Amounts.{centsOn, amount, outcomeOf, releaseOf, slotOf, claimOn}
 use Rattle.claims.specs.Written.{claimBytes}
@@ -56,13 +56,5 @@ pub stored-claim : (l o : List ℕ) (n : ℕ) (c : Claim) (r : Wrote) → 35 * n
     → _≡_ {A = Writing} (record { number = wroteNumber r; buffer = o })
     (writing claimKind (claimValues c) [] (take (length l - 35 * n) (drop (35 * n) l)))
     → take (35 * n) l ++ (o ++ drop (length l - 35 * n) (drop (35 * n) l)) ≡ put l (35 * n) (claimBytes c)
-unfolding put claimBytes size claimKind
-stored-claim l o n c r h e =
-    let whole : take (length l - 35 * n) (drop (35 * n) l) ≡ drop (35 * n) l
-    = take-all (length l - 35 * n) (drop (35 * n) l) (omega (arith, length-drop (35 * n) l)) in
-    let none : drop (length l - 35 * n) (drop (35 * n) l) ≡ []
-    = drop-of-length-le (drop (35 * n) l) {i = length l - 35 * n} (omega (arith, length-drop (35 * n) l)) in
-    let bytes : o ≡ claimBytes c ++ drop (35 * n + 35) l
-    = wrote-whole claimKind (claimValues c) [] (drop (35 * n) l) {r = r} (rw whole at e) (omega (arith, length-drop (35 * n) l)) .1
-    ∙ ap (λ (x : List ℕ). claimBytes c ++ x) (drop-drop 35 (35 * n) l) in
-    rw (none, append-nil o, bytes, claim-length c)
+unfolding claimBytes size claimKind
+stored-claim l o n c r h e = stored-record claimKind (claimValues c) [] l o (35 * n) r (claim-length c) h e

@@ -2,13 +2,15 @@
 -- and a writer's answer says what the buffer holds.
 use mathlib.Core.Path.{_≡_, refl, sym, ap, _∙_}
 use mathlib.Core.Bool.{Bool, true, false, cond}
-use mathlib.Core.List.{List, [], _++_}
-use Prim.Native.Nat.{ℕ, _≤_, _<_}
+use mathlib.Core.List.{List, [], _++_, append-nil}
+use Prim.Native.Nat.{ℕ, _+_, _-_, _≤_, _<_}
 use native.Mathlib.Omega.{arith}
-use lib.ListN.{length, drop}
+use lib.ListN.{length, take, drop, length-drop, drop-of-length-le}
+use lib.Seq.{take-all, drop-drop}
 use borrow.Author.Tests.{le-leb, lt-leb}
 use Rattle.lists.specs.Tests.{cond-true, cond-false}
 use Rattle.lists.specs.Fields.{decode}
+use Rattle.lists.specs.Put.{put}
 use Rattle.records.specs.declared.Transfer.{Transfer}
 use Rattle.records.specs.declared.Claim.{Claim}
 use Rattle.records.specs.declared.Answer.{Answer}
@@ -142,3 +144,17 @@ module _ (k : Kind) (vs text l : List ℕ) where
           → (r ≡ Short) × (o ≡ l)
       go Short e = (refl, ap (λ (w : Writing). w .buffer) e)
       go Whole e = absurd (omega (arith, ap (λ (w : Writing). w .number) e))
+
+-- ---- a record written to the part of a buffer from a place on is put there
+
+pub stored-record : (k : Kind) (vs text l o : List ℕ) (at : ℕ) (r : Wrote) → length (recordBytes k vs text) ≡ size k → at + size k ≤ length l
+    → _≡_ {A = Writing} (record { number = wroteNumber r; buffer = o }) (writing k vs text (take (length l - at) (drop at l)))
+    → take at l ++ (o ++ drop (length l - at) (drop at l)) ≡ put l at (recordBytes k vs text)
+unfolding put
+stored-record k vs text l o at r n h e =
+    let whole : take (length l - at) (drop at l) ≡ drop at l = take-all (length l - at) (drop at l) (omega (arith, length-drop at l)) in
+    let none : drop (length l - at) (drop at l) ≡ [] = drop-of-length-le (drop at l) {i = length l - at} (omega (arith, length-drop at l)) in
+    let bytes : o ≡ recordBytes k vs text ++ drop (at + size k) l =
+    wrote-whole k vs text (drop at l) {r = r} (rw whole at e) (omega (arith, length-drop at l)) .1
+    ∙ ap (λ (x : List ℕ). recordBytes k vs text ++ x) (drop-drop (size k) at l) in
+    rw (none, append-nil o, bytes, n)
