@@ -1,18 +1,17 @@
 -- What the first bytes of the input decide: the four bytes of a header, and what the input begins with.
-use mathlib.Core.Path.{_≡_, refl, sym, ap, _∙_}
+use mathlib.Core.Path.{_≡_, refl, sym, _∙_}
 use mathlib.Core.Bool.{Bool, true, false, cond, not, _&&_, _||_}
-use mathlib.Core.List.{List, [], _∷_}
+use mathlib.Core.List.{List}
 use Prim.Native.Nat.{ℕ, suc, _+_, _*_, _≤_, _<_}
 use native.Mathlib.Omega.{arith}
 use lib.Dec.{eqb, ltb, leb}
-use lib.ListN.{length, take, drop, getD, length-take}
+use lib.ListN.{length, getD}
 use lib.Seq.{drop-cons}
-use borrow.Author.Tests.{eqb-true, eqb-false, eq-eqb, ne-eqb, le-leb, lt-leb, lt-ltb, le-ltb, leb-true}
-use Rattle.lists.specs.Tests.{and-left, and-right, and-both}
+use borrow.Author.Tests.{eqb-true, eqb-false, eq-eqb, ne-eqb, le-leb, lt-leb, lt-ltb, le-ltb}
+use Rattle.lists.specs.Tests.{and-left}
 use Rattle.lists.specs.Numbers.{numberOf}
-use Rattle.lists.specs.Fields.{part, part-take}
+use Rattle.lists.specs.Fields.{part}
 use Rattle.records.specs.MessageRecords.{Kind, transferKind, closeKind, size, headed, reads}
-use Rattle.stream.specs.declared.Next.{Next}
 use Rattle.stream.specs.declared.Next.the-variants.{Waiting, Wrong, Record}
 use Rattle.stream.specs.Stream.{header, unready, next}
 

@@ -2,7 +2,7 @@
 use mathlib.Core.Path.{_≡_, refl, sym, ap, _∙_, subst}
 use mathlib.Core.Bool.{Bool, true, false, cond}
 use mathlib.Core.List.{List, [], _∷_, _++_, append-assoc}
-use Prim.Native.Nat.{ℕ, zero, suc, min, _+_, _-_, _*_, _≤_, _<_}
+use Prim.Native.Nat.{ℕ, zero, suc, min, _+_, _-_, _*_, _≤_}
 use native.Mathlib.Nat.{zero-add}
 use native.Mathlib.Omega.{arith}
 use lib.ListN.{length, take, drop, replicate, length-take, length-append, length-drop, length-replicate, take-append-drop}
@@ -10,8 +10,7 @@ use lib.Seq.{take-at, drop-append-le}
 use Rattle.lists.specs.Tests.{cond-true, cond-false}
 use Rattle.lists.specs.Numbers.{bytesOf}
 use Rattle.lists.specs.Fields.{encode}
-use Rattle.lists.specs.First.{firstOf}
-use Rattle.lists.specs.Put.{put, put-start, put-put, put-length}
+use Rattle.lists.specs.Put.{put, put-start, put-put}
 use Rattle.records.specs.declared.Wrote.{Wrote}
 use Rattle.records.specs.MessageRecords.{closeKind, answerKind, size, recordBytes, reads, Writing, writing, wroteNumber}
 use Rattle.records.proofs.Answers.{stored-record}
@@ -20,13 +19,12 @@ use Rattle.claims.specs.Passes.{all-length}
 use Rattle.claims.proofs.Written.{length-written}
 use Rattle.book.specs.declared.Book.{Book}
 use Rattle.book.specs.declared.Done.{Done}
-use Rattle.history.specs.Calls.{Arguments, Call, transfer, close, bufferOf, claimsOf}
+use Rattle.history.specs.Calls.{Call, transfer, close, bufferOf, claimsOf}
 use Rattle.history.specs.Causes.{roomCauses, callCauses, causes, numberFor}
 use Rattle.history.specs.Results.{Result, nextBook, nextBalances, resultFor, left, result}
 use Rattle.history.proofs.Accepted.{taken, closed}
-use Rattle.stream.specs.declared.Worked.{Worked}
 use Rattle.stream.specs.Stream.{callWith, callFor, answerBytes, emitted}
-use Rattle.stream.specs.Serving.{Working, working, worked}
+use Rattle.stream.specs.Serving.{Working, working}
 
 -- ---- the answer
 

@@ -9,10 +9,10 @@ use Rattle.lists.specs.First.{firstOf}
 use Rattle.lists.specs.Put.{put}
 use Rattle.book.specs.declared.Book.{Book}
 use Rattle.book.specs.Soundness.{bookCauses}
-use Rattle.history.specs.Results.{Result, result}
+use Rattle.history.specs.Results.{result}
 use Rattle.stream.specs.declared.Served.{Served}
 use Rattle.stream.specs.declared.Worked.{Worked}
-use Rattle.stream.specs.Stream.{claimRoom, next, onNext, callFor, answerBytes, emitted}
+use Rattle.stream.specs.Stream.{next, onNext, callFor, answerBytes, emitted}
 
 -- The room that a record is worked in: its claim buffer and its answer.
 abbrev pub recordRoom : ℕ

@@ -1,157 +1,123 @@
+-- Each turn works one record; what is left of the definition is kept, and each return is its end.
+use mathlib.Core.Path.{sym, _∙_}
+use Prim.Native.Nat.{_-_}
+use lib.ListN.{length}
+use Rattle.stream.proofs.Runs.{Going, going-start, going-waits, going-ends, going-full, going-again, size-fits, written-fits, going-words}
+use borrow.Author.Needs.{needs}
+use native.Mathlib.Omega.{arith}
 use Rattle.stream.proofs.serve_sound.Statement.{statement}
 use Rattle.stream.proofs.serve_sound.Tie as tie
-use Rattle.stream.proofs.serve_sound.Reads as reads
-use Rattle.stream.proofs.serve_sound.Lts as lts
-use Rattle.stream.proofs.next_record.Reads as next-record-reads
-use Rattle.stream.proofs.put_answer.Reads as put-answer-reads
-use Rattle.stream.proofs.sound_run.Reads as sound-run-reads
-use Rattle.stream.proofs.work.Reads as work-reads
 
 abbrev Inv-loop : tie.InvT-loop
-Inv-loop calendar tables balances₀ input ended output₀ b₀ at₀ out₀ balances output b at out = ?
+Inv-loop calendar tables balances₀ input ended output₀ b₀ at₀ out₀ balances output b at out = Going calendar tables ended b₀ balances₀ input output₀ balances output b at out
 
 abbrev μ-loop : tie.MeasureT-loop
-μ-loop calendar tables balances₀ input ended output₀ b₀ at₀ out₀ balances output b at out = ?
+μ-loop calendar tables balances₀ input ended output₀ b₀ at₀ out₀ balances output b at out = length input - at
 
--- src/lib.rt:177:5
 loop-holds : tie.Need-loop-holds Inv-loop μ-loop
-loop-holds c = ?
+loop-holds c = going-start _ _ _ _ _ _ _ (c .before .before .before .before .before .pre)
 
--- src/lib.rt:177:26
 sub-loop : tie.Need-sub-loop Inv-loop μ-loop
-sub-loop c = ?
+sub-loop c = search needs
 
--- src/lib.rt:178:38
 sub-next-record : tie.Need-sub-next-record Inv-loop μ-loop
-sub-next-record c = ?
+sub-next-record c = search needs
 
--- src/lib.rt:178:38
 part-next-record-start : tie.Need-part-next-record-start Inv-loop μ-loop
-part-next-record-start c = ?
+part-next-record-start c = search needs
 
--- src/lib.rt:178:38
 part-next-record-end : tie.Need-part-next-record-end Inv-loop μ-loop
-part-next-record-end c = ?
+part-next-record-end c = search needs
 
--- src/lib.rt:178:26
 next-record-requires : tie.Need-next-record-requires Inv-loop μ-loop
-next-record-requires c κs = ?
+next-record-requires c κs = search needs
 
--- src/lib.rt:179:26
 enum-known-size : tie.Need-enum-known-size Inv-loop μ-loop
-enum-known-size c = ?
+enum-known-size c = search needs
 
--- src/lib.rt:180:30
 enum-told : tie.Need-enum-told Inv-loop μ-loop
-enum-told c = ?
+enum-told c = search needs
 
--- src/lib.rt:180:30
 sound-run-requires : tie.Need-sound-run-requires Inv-loop μ-loop
-sound-run-requires c κs = ?
+sound-run-requires c κs = search needs
 
--- src/lib.rt:180:30
 same-length : tie.Need-same-length Inv-loop μ-loop
-same-length c = ?
+same-length c = going-words _ _ _ _ _ _ _ (c .before .before .before .before .before .before .loop .inv) (c .before .before .before .before .before .before .before .before .before .before .before .before .pre)
 
--- src/lib.rt:180:30
 same-length-2 : tie.Need-same-length-2 Inv-loop μ-loop
-same-length-2 c = ?
+same-length-2 c = search needs
 
--- src/lib.rt:180:30
 returns : tie.Need-returns Inv-loop μ-loop
-returns c = ?
+returns c = going-waits _ _ _ _ _ _ _ (c .before .before .before .before .before .before .loop .inv) (sym (c .before .enum-told .given .1) ∙ c .before .before .before .next-record .ensures) _ (c .sound-run .ensures)
 
--- src/lib.rt:182:28
 enum-told-2 : tie.Need-enum-told-2 Inv-loop μ-loop
-enum-told-2 c = ?
+enum-told-2 c = search needs
 
--- src/lib.rt:182:17
 put-answer-requires : tie.Need-put-answer-requires Inv-loop μ-loop
-put-answer-requires c κs = ?
+put-answer-requires c κs = search needs
 
--- src/lib.rt:183:41
 add-sound-run : tie.Need-add-sound-run Inv-loop μ-loop
-add-sound-run c = ?
+add-sound-run c = search needs
 
--- src/lib.rt:183:17
 sound-run-requires-2 : tie.Need-sound-run-requires-2 Inv-loop μ-loop
-sound-run-requires-2 c κs = ?
+sound-run-requires-2 c κs = search needs
 
--- src/lib.rt:183:17
 same-length-3 : tie.Need-same-length-3 Inv-loop μ-loop
-same-length-3 c = ?
+same-length-3 c = going-words _ _ _ _ _ _ _ (c .before .before .before .before .before .before .before .before .before .before .loop .inv) (c .before .before .before .before .before .before .before .before .before .before .before .before .before .before .before .before .pre)
 
--- src/lib.rt:183:17
 same-length-4 : tie.Need-same-length-4 Inv-loop μ-loop
-same-length-4 c = ?
+same-length-4 c = search needs
 
--- src/lib.rt:183:17
 returns-2 : tie.Need-returns-2 Inv-loop μ-loop
-returns-2 c = ?
+returns-2 c = going-ends _ _ _ _ _ _ _ (c .before .before .before .before .before .before .before .before .before .before .loop .inv) (c .before .before .before .before .before .before .before .before .before .loop-test .taken) (sym (c .before .before .before .before .before .enum-told2 .given .1) ∙ c .before .before .before .before .before .before .before .next-record .ensures) _ (c .sound-run2 .ensures) (c .before .before .before .put-answer .ensures)
 
--- src/lib.rt:191:24
 add-work : tie.Need-add-work Inv-loop μ-loop
-add-work c = ?
+add-work c = let k = size-fits _ _ _ _ _ _ _ (c .before .before .before .before .before .before .before .loop .inv) (sym (c .before .before .size .given .1) ∙ c .before .before .before .before .next-record .ensures) in search needs
 
--- src/lib.rt:191:13
 sub-work : tie.Need-sub-work Inv-loop μ-loop
-sub-work c = ?
+sub-work c = search needs
 
--- src/lib.rt:191:13
 part-work-start : tie.Need-part-work-start Inv-loop μ-loop
-part-work-start c = ?
+part-work-start c = search needs
 
--- src/lib.rt:191:13
 part-work-end : tie.Need-part-work-end Inv-loop μ-loop
-part-work-end c = ?
+part-work-end c = let k = size-fits _ _ _ _ _ _ _ (c .before .before .before .before .before .before .before .loop .inv) (sym (c .before .before .size .given .1) ∙ c .before .before .before .before .next-record .ensures) in search needs
 
--- src/lib.rt:192:13
 sub-work-2 : tie.Need-sub-work-2 Inv-loop μ-loop
-sub-work-2 c = ?
+sub-work-2 c = search needs
 
--- src/lib.rt:192:13
 part-work-start-2 : tie.Need-part-work-start-2 Inv-loop μ-loop
-part-work-start-2 c = ?
+part-work-start-2 c = search needs
 
--- src/lib.rt:192:13
 part-work-end-2 : tie.Need-part-work-end-2 Inv-loop μ-loop
-part-work-end-2 c = ?
+part-work-end-2 c = search needs
 
--- src/lib.rt:186:13
 work-requires : tie.Need-work-requires Inv-loop μ-loop
-work-requires c κs = ?
+work-requires c κs = search needs
 
--- src/lib.rt:195:9
 add-at : tie.Need-add-at Inv-loop μ-loop
-add-at c = ?
+add-at c = let k = size-fits _ _ _ _ _ _ _ (c .before .before .before .before .before .before .before .before .before .before .before .before .before .before .before .loop .inv) (sym (c .before .before .before .before .before .before .before .before .before .before .size .given .1) ∙ c .before .before .before .before .before .before .before .before .before .before .before .before .next-record .ensures) in search needs
 
--- src/lib.rt:196:9
 add-out : tie.Need-add-out Inv-loop μ-loop
-add-out c = ?
+add-out c = let k = written-fits _ _ _ _ _ _ _ (c .before .before .before .before .before .before .before .before .before .before .before .before .before .before .before .before .loop .inv) _ _ _ _ (c .before .before .before .before .before .before .before .before .before .before .before .before .before .before .before .loop-test .taken) (sym (c .before .before .before .before .before .before .before .before .before .before .before .size .given .1) ∙ c .before .before .before .before .before .before .before .before .before .before .before .before .before .next-record .ensures) (c .before .before .before .before .before .before .work .ensures) in record { fits = omega (arith, k, c .before .before .before .before .before .before .before .before .before .before .before .before .before .before .before .before .before .before .before .before .before .before .good .1 .1 .1 .1 .1 .1 .0) }
 
--- src/lib.rt:177:5
 loop-less : tie.Need-loop-less Inv-loop μ-loop
-loop-less c = ?
+loop-less c = let k = size-fits _ _ _ _ _ _ _ (c .before .before .before .before .before .before .before .before .before .before .before .before .before .before .before .before .loop .inv) (sym (c .before .before .before .before .before .before .before .before .before .before .before .size .given .1) ∙ c .before .before .before .before .before .before .before .before .before .before .before .before .before .next-record .ensures) in search needs
 
--- src/lib.rt:177:5
 loop-again : tie.Need-loop-again Inv-loop μ-loop
-loop-again c = ?
+loop-again c = going-again _ _ _ _ _ _ _ (c .before .before .before .before .before .before .before .before .before .before .before .before .before .before .before .before .loop .inv) _ _ _ _ (c .before .before .before .before .before .before .before .before .before .before .before .before .before .before .before .loop-test .taken) (sym (c .before .before .before .before .before .before .before .before .before .before .before .size .given .1) ∙ c .before .before .before .before .before .before .before .before .before .before .before .before .before .next-record .ensures) (c .before .before .before .before .before .before .work .ensures)
 
--- src/lib.rt:198:5
 sound-run-requires-3 : tie.Need-sound-run-requires-3 Inv-loop μ-loop
-sound-run-requires-3 c κs = ?
+sound-run-requires-3 c κs = search needs
 
--- src/lib.rt:162:1
 same-length-5 : tie.Need-same-length-5 Inv-loop μ-loop
-same-length-5 c = ?
+same-length-5 c = going-words _ _ _ _ _ _ _ (c .before .before .loop .inv) (c .before .before .before .before .before .before .before .before .pre)
 
--- src/lib.rt:162:1
 same-length-6 : tie.Need-same-length-6 Inv-loop μ-loop
-same-length-6 c = ?
+same-length-6 c = search needs
 
--- src/lib.rt:162:1
 returns-3 : tie.Need-returns-3 Inv-loop μ-loop
-returns-3 c = ?
+returns-3 c = going-full _ _ _ _ _ _ _ (c .before .before .loop .inv) (search needs) _ (c .sound-run3 .ensures)
 
 pub serve-sound-spec : {M : Type 1} → statement M
 serve-sound-spec =

@@ -24,21 +24,18 @@ call-requires c κs = search needs
 
 mul-n : tie.Need-mul-n
 mul-n c =
-
     let a = c .before .before .before .before .before .before .before .before .before .before .before .before .before .before .args in
     let k = leaves (a .calendar .now) (a .tables .now) (a .book) (a .balances .now) (a .message .now) (a .output .now) (c .before .before .before .before .before .before .before .before .before .before .before .before .before .before .pre .1) _ _ _ (c .before .before .before .before .before .before .call .ensures) in
     record { fits = omega (arith, k .fits) }
 
 put-answer-requires : tie.Need-put-answer-requires
 put-answer-requires c κs =
-
     let a = c .before .before .before .before .before .before .before .before .before .before .before .before .before .before .before .args in
     let k = leaves (a .calendar .now) (a .tables .now) (a .book) (a .balances .now) (a .message .now) (a .output .now) (c .before .before .before .before .before .before .before .before .before .before .before .before .before .before .before .pre .1) _ _ _ (c .before .before .before .before .before .before .before .call .ensures) in
     omega (arith, k .fits, k .sized, c .before .before .before .before .before .before .before .before .before .before .before .before .before .before .before .pre .1)
 
 add-t13 : tie.Need-add-t13
 add-t13 c =
-
     let a = c .before .before .before .before .before .before .before .before .before .before .before .before .before .before .before .before .before .before .args in
     let k = leaves (a .calendar .now) (a .tables .now) (a .book) (a .balances .now) (a .message .now) (a .output .now) (c .before .before .before .before .before .before .before .before .before .before .before .before .before .before .before .before .before .before .pre .1) _ _ _ (c .before .before .before .before .before .before .before .before .before .before .call .ensures) in
     record { fits = omega (arith, k .fits) }
@@ -48,7 +45,6 @@ same-length c = search needs
 
 same-length-2 : tie.Need-same-length-2
 same-length-2 c =
-
     let a = c .before .before .before .before .before .before .before .before .before .before .before .before .before .before .before .before .before .before .args in
     let k = leaves (a .calendar .now) (a .tables .now) (a .book) (a .balances .now) (a .message .now) (a .output .now) (c .before .before .before .before .before .before .before .before .before .before .before .before .before .before .before .before .before .before .pre .1) _ _ _ (c .before .before .before .before .before .before .before .before .before .before .call .ensures) in
     ap length (c .before .before .put-answer .ensures) ∙ put-length _ _ _ (omega (arith, k .fits, k .sized, answer-length (c .before .before .before .before .before .before .before .before .before .before .call .result .number), c .before .before .before .before .before .before .before .before .before .before .before .before .before .before .before .before .before .before .pre .1)) ∙ k .sized
@@ -56,7 +52,6 @@ same-length-2 c =
 returns : tie.Need-returns
 unfolding worked
 returns c =
-
     let a = c .before .before .before .before .before .before .before .before .before .before .before .before .before .before .before .before .before .before .args in
     let k = leaves (a .calendar .now) (a .tables .now) (a .book) (a .balances .now) (a .message .now) (a .output .now) (c .before .before .before .before .before .before .before .before .before .before .before .before .before .before .before .before .before .before .pre .1) _ _ _ (c .before .before .before .before .before .before .before .before .before .before .call .ensures) in
     (λ i. record { book = c .before .before .before .before .before .before .before .before .before .before .call .result .book; balances = c .before .before .before .before .before .before .before .before .before .before .call .last .1 .1 .1 .0; written = 35 * c .before .before .before .before .before .before .before .before .before .before .call .result .claims + 6; output = c .before .before .put-answer .ensures i }) ∙ k .same
