@@ -1,3 +1,5 @@
 pub mod Headers
 pub mod Records
 pub mod Runs
+pub mod Cuts
+pub mod Theorem

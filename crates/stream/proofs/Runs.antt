@@ -8,11 +8,11 @@ use native.Mathlib.Omega.{arith}
 use lib.Dec.{ltb}
 use lib.ListN.{length, take, drop, replicate, length-take, length-append, length-drop, length-replicate, drop-of-length-le}
 use lib.Seq.{take-all, drop-drop}
-use borrow.Author.Tests.{lt-ltb, le-ltb, leb-true}
-use Rattle.lists.specs.Tests.{cond-true, cond-false, and-left}
+use borrow.Author.Tests.{lt-ltb, le-ltb}
+use Rattle.lists.specs.Tests.{cond-true, cond-false}
 use Rattle.lists.specs.First.{firstOf}
 use Rattle.lists.specs.Put.{put, put-none, put-put, put-length}
-use Rattle.records.specs.MessageRecords.{transferKind, closeKind, size, headed, reads}
+use Rattle.records.specs.MessageRecords.{closeKind, size, reads}
 use Rattle.claims.specs.Written.{written}
 use Rattle.book.specs.declared.Book.{Book}
 use Rattle.book.specs.Soundness.{bookCauses}
@@ -25,42 +25,10 @@ use Rattle.stream.specs.declared.Next.{Next}
 use Rattle.stream.specs.declared.Next.the-variants.{Waiting, Wrong, Record}
 use Rattle.stream.specs.declared.Served.{Served}
 use Rattle.stream.specs.declared.Worked.{Worked}
-use Rattle.stream.specs.Stream.{unready, next, onNext, callWith, callFor, answerBytes, emitted}
+use Rattle.stream.specs.Stream.{next, onNext, callWith, callFor, answerBytes, emitted}
 use Rattle.stream.specs.Serving.{Serving, stopped, endedByFive, after, serveUpTo, serving, Working, working, worked, leavesFor, leftServed, leaves}
-use Rattle.stream.proofs.Headers.{next-empty}
+use Rattle.stream.proofs.Headers.{caseOf, next-empty, next-size}
 use Rattle.stream.proofs.Records.{answer-length, claims-fit}
-
--- ---- the beginning of the input
-
--- the size in a record's case
-sizeIn : Next → ℕ
-sizeIn (Record n) = n
-sizeIn Waiting = 0
-sizeIn Wrong = 0
-
--- the case's number
-caseOf : Next → ℕ
-caseOf (Record n) = 0
-caseOf Waiting = 1
-caseOf Wrong = 2
-
--- a whole record has a byte and is no longer than the input
-pub next-size : (ended : Bool) (s : List ℕ) (n : ℕ) → Record n ≡ next ended s → (1 ≤ n) × (n ≤ length s)
-unfolding next size transferKind closeKind reads headed sizeIn caseOf
-next-size ended s n e = go (reads transferKind s) refl (reads closeKind s) refl (unready ended s) e
-  where
-    go : (t : Bool) → reads transferKind s ≡ t → (c : Bool) → reads closeKind s ≡ c → (u : Bool)
-        → Record n ≡ cond t (Record 141) (cond c (Record 4) (cond u Waiting Wrong)) → (1 ≤ n) × (n ≤ length s)
-    go true t c _ u e =
-        let k : n ≡ 141 = ap sizeIn e in
-        let l = leb-true 141 (length s) (and-left _ _ t) in
-        (omega (arith, k), omega (arith, k, l))
-    go false t true c u e =
-        let k : n ≡ 4 = ap sizeIn e in
-        let l = leb-true 4 (length s) (and-left _ _ c) in
-        (omega (arith, k), omega (arith, k, l))
-    go false t false c true e = let k : _≡_ {A = ℕ} 0 1 = ap caseOf e in absurd (omega arith)
-    go false t false c false e = let k : _≡_ {A = ℕ} 0 2 = ap caseOf e in absurd (omega arith)
 
 -- ---- the bytes of a record
 
@@ -103,6 +71,15 @@ record-served n calendar tables ended book balances input room k h e =
     cond-false _ _ (le-ltb room 65542 h) ∙ turn _ _ _
   where
     turn : (x y : Serving) (f : ℕ → Serving) → onNext (next ended input) x y f ≡ f k
+    turn x y f = ap (λ (k : Next). onNext k x y f) (sym e)
+
+-- what is no record gets its 5 where there is room
+pub wrong-served : (n : ℕ) (calendar tables : List ℕ) (ended : Bool) (book : Book) (balances input : List ℕ) (room : ℕ)
+    → 65542 ≤ room → Wrong ≡ next ended input → serveUpTo (suc n) calendar tables ended book balances input room ≡ endedByFive book balances
+unfolding serveUpTo onNext
+wrong-served n calendar tables ended book balances input room h e = cond-false _ _ (le-ltb room 65542 h) ∙ turn _ _ _
+  where
+    turn : (x y : Serving) (f : ℕ → Serving) → onNext (next ended input) x y f ≡ y
     turn x y f = ap (λ (k : Next). onNext k x y f) (sym e)
 
 -- one run behind another
@@ -217,7 +194,7 @@ module _ (calendar tables : List ℕ) (ended : Bool) (book₀ : Book) (balances�
         → r ≡ record { number = 0; book = book; consumed = at; written = out + 6; over = true }
         → {o : List ℕ} → o ≡ put output out (answerBytes 5)
         → leftServed r balances o ≡ leavesFor 0 book₀ balances₀ output₀ (serving calendar tables ended book₀ balances₀ input (length output₀))
-    unfolding serveUpTo onNext endedByFive caseOf
+    unfolding endedByFive caseOf
     going-ends h e r q {o} p =
         ends at (g .bytes) (endedByFive book balances) r (g .rest ∙ ap (after at (g .bytes)) (go (g .fuel) (g .enough))) (ap (λ (x : Served). x .number) q)
         (ap (λ (x : Served). x .book) q) (ap (λ (x : Served). x .consumed) q ∙ sym (add-zero at))
@@ -228,17 +205,12 @@ module _ (calendar tables : List ℕ) (ended : Bool) (book₀ : Book) (balances�
         wrong : Wrong ≡ next ended (drop at input)
         wrong = rw whole-rest at e
 
-        turn : (x y : Serving) (f : ℕ → Serving) → onNext (next ended (drop at input)) x y f ≡ y
-        turn x y f = ap (λ (k : Next). onNext k x y f) (sym wrong)
-
         go : (n : ℕ) → length input - at ≤ n
             → serveUpTo n calendar tables ended book balances (drop at input) (length output₀ - out) ≡ endedByFive book balances
         go zero m =
             let k : _≡_ {A = ℕ} 2 1 = ap caseOf (wrong ∙ sym (next-empty (drop at input) ended (omega (arith, m, length-drop at input)))) in
             absurd (omega arith)
-        go (suc n) m =
-            cond-false _ _ (le-ltb (length output₀ - out) 65542 (omega (arith, g .kept, h)))
-            ∙ turn _ _ _
+        go (suc n) m = wrong-served n calendar tables ended book balances (drop at input) (length output₀ - out) (omega (arith, g .kept, h)) wrong
 
     -- one record more
     pub size-fits : {size : ℕ} → Record size ≡ next ended (take (length input - at) (drop at input)) → (1 ≤ size) × (at + size ≤ length input)

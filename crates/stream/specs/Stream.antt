@@ -66,23 +66,28 @@ onNext Waiting waits refuses works = waits
 onNext Wrong waits refuses works = refuses
 onNext (Record n) waits refuses works = works n
 
--- The whole records of a stream, up to n of them.
-unfoldable pub records : ℕ → List ℕ → List (List ℕ)
-records zero s = []
-records (suc n) s = onNext (next true s) [] [] (λ k. take k s ∷ records n (drop k s))
+-- The whole records of a stream, and what stands behind them.
+pub record Split : Type 0 where
+  pub records : List (List ℕ)
+  pub behind : List ℕ
 
--- What stands behind up to n whole records.
-unfoldable pub behind : ℕ → List ℕ → List ℕ
-behind zero s = s
-behind (suc n) s = onNext (next true s) s s (λ k. behind n (drop k s))
+-- A record before others.
+unfoldable pub added : List ℕ → Split → Split
+added message rest = record { records = message ∷ rest .records; behind = rest .behind }
+
+-- Up to n records.
+unfoldable pub split : ℕ → List ℕ → Split
+split zero s = record { records = []; behind = s }
+split (suc n) s =
+    onNext (next true s) (record { records = []; behind = s }) (record { records = []; behind = s }) (λ k. added (take k s) (split n (drop k s)))
 
 -- The calls of a stream: every record has a byte, so the input's length is number enough.
 unfoldable pub callsOf : List ℕ → List Call
-callsOf s = map callFor (records (length s) s)
+callsOf s = map callFor (split (length s) s .records)
 
 -- The answer 5 where something stands behind the records.
 unfoldable pub ending : List ℕ → List ℕ
-ending s = cond (eqb (length (behind (length s) s)) 0) [] (answerBytes 5)
+ending s = cond (eqb (length (split (length s) s .behind)) 0) [] (answerBytes 5)
 
 -- All that is written for a stream.
 unfoldable pub streamBytes : List ℕ → List ℕ → Book → List ℕ → List ℕ → List ℕ
