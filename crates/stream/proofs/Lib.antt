@@ -3,3 +3,4 @@ pub mod Records
 pub mod Runs
 pub mod Cuts
 pub mod Theorem
+pub mod Bounds
