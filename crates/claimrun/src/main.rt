@@ -106,27 +106,6 @@ fn read_book(buf: &mut [u8]) -> usize {
     n
 }
 
-// The four-byte number at a place.
-fn word_at(s: &[u8], at: usize) -> u32
-    requires { ⌜ at + 4 ≤ length (now s) ⌝ }
-{
-    (s[at] as u32)
-        + 256 * (s[at + 1] as u32)
-        + 65536 * (s[at + 2] as u32)
-        + 16777216 * (s[at + 3] as u32)
-}
-
-// The words that stand in bytes from a place on.
-fn take_words(s: &[u8], at: usize, words: &mut [u32])
-    requires { ⌜ at + 4 * length (now words) ≤ length (now s) ⌝ }
-{
-    let mut i: usize = 0;
-    while i < words.len() {
-        words[i] = word_at(s, at + 4 * i);
-        i += 1;
-    }
-}
-
 // Moves bytes to the buffer's start.
 fn move_down(buf: &mut [u8], from: usize, n: usize)
     requires { ⌜ from + n ≤ length (now buf) ⌝ }
@@ -268,7 +247,7 @@ fn main() {
     }
     let mut calendar = [0u32; 480];
     let mut tables = [0u32; 1824];
-    take_words(&bytes, 0, &mut calendar);
-    take_words(&bytes, 1920, &mut tables);
-    open_and_run(&calendar, &tables, word_at(&bytes, 9216));
+    book_file::take_words(&bytes, 0, &mut calendar);
+    book_file::take_words(&bytes, 1920, &mut tables);
+    open_and_run(&calendar, &tables, records::u32_at(&bytes, 9216));
 }

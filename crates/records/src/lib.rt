@@ -131,7 +131,7 @@ fn u16_at(s: &[u8], at: usize) -> u16
 }
 
 // The four-byte number at a place.
-fn u32_at(s: &[u8], at: usize) -> u32
+pub fn u32_at(s: &[u8], at: usize) -> u32
     requires { ⌜ at + 4 ≤ length (now s) ⌝ }
     ensures { λ r. ⌜ r ≡ numberOf (part at 4 (now (s .entry))) ⌝ }
 {
