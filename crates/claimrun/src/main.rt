@@ -109,6 +109,7 @@ fn read_book(buf: &mut [u8]) -> usize {
 // Moves bytes to the buffer's start.
 fn move_down(buf: &mut [u8], from: usize, n: usize)
     requires { ⌜ from + n ≤ length (now buf) ⌝ }
+    ensures { λ _. ⌜ n ≤ length (now (buf .exit)) ⌝ }
 {
     let mut i: usize = 0;
     while i < n {
@@ -136,7 +137,8 @@ fn serve_block(
         let s = stream::serve(calendar, tables, b, balances, &input[at..], ended, output);
         b = s.book;
         at += s.consumed;
-        going = write_out(&output[..s.written]);
+        let written = s.written;
+        going = write_out(&output[0..written]);
         if s.over {
             going = false;
         }
@@ -166,7 +168,7 @@ fn serve_read(
     output: &mut [u8],
 ) -> Turn
     requires { ⌜ have ≤ length (now input) ⌝ }
-    ensures { λ r. ⌜ r .have ≤ length (now (input .entry)) ⌝ }
+    ensures { λ r. ⌜ r .have ≤ length (now (input .exit)) ⌝ }
 {
     let got = read_some(STDIN_FILENO, &mut input[have..]);
     let n = io::count(got, &input[have..]);
@@ -176,7 +178,7 @@ fn serve_read(
         tables,
         book,
         balances,
-        &input[..end],
+        &input[0..end],
         n == 0,
         output,
     );

@@ -1,87 +1,70 @@
+-- The buffer is filled from its start, and never past its end.
+use mathlib.Core.Path.{_≡_}
+use Prim.Native.Nat.{_-_, _≤_}
+use lib.ListN.{length}
+use borrow.Author.Needs.{needs}
 use Rattle.claimrun.proofs.fill.Statement.{statement}
 use Rattle.claimrun.proofs.fill.Tie as tie
-use Rattle.claimrun.proofs.fill.Reads as reads
-use Rattle.claimrun.proofs.fill.Lts as lts
-use Rattle.claimrun.proofs.read_some.Reads as read-some-reads
-use Rattle.io.proofs.count.Reads as count-reads
 
 abbrev Inv-loop : tie.InvT-loop
-Inv-loop fd buf₀ at₀ buf at = ?
+Inv-loop fd buf₀ at₀ buf at = (length buf ≡ length buf₀) × (at ≤ length buf₀)
 
 abbrev μ-loop : tie.MeasureT-loop
-μ-loop fd buf₀ at₀ buf at = ?
+μ-loop fd buf₀ at₀ buf at = length buf₀ - at
 
--- src/main.rt:84:5
 loop-holds : tie.Need-loop-holds Inv-loop μ-loop
-loop-holds c = ?
+loop-holds c = search needs
 
--- src/main.rt:85:33
 sub-read-some : tie.Need-sub-read-some Inv-loop μ-loop
-sub-read-some c = ?
+sub-read-some c = search needs
 
--- src/main.rt:85:33
 part-read-some-start : tie.Need-part-read-some-start Inv-loop μ-loop
-part-read-some-start c = ?
+part-read-some-start c = search needs
 
--- src/main.rt:85:33
 part-read-some-end : tie.Need-part-read-some-end Inv-loop μ-loop
-part-read-some-end c = ?
+part-read-some-end c = search needs
 
--- src/main.rt:85:13
 read-some-requires : tie.Need-read-some-requires Inv-loop μ-loop
-read-some-requires c κs = ?
+read-some-requires c κs = search needs
 
--- src/main.rt:87:13
 same-length : tie.Need-same-length Inv-loop μ-loop
-same-length c = ?
+same-length c = search needs
 
--- src/main.rt:87:13
 returns : tie.Need-returns Inv-loop μ-loop
-returns c = ?
+returns c = search needs
 
--- src/main.rt:89:32
 sub-count : tie.Need-sub-count Inv-loop μ-loop
-sub-count c = ?
+sub-count c = search needs
 
--- src/main.rt:89:32
 part-count-start : tie.Need-part-count-start Inv-loop μ-loop
-part-count-start c = ?
+part-count-start c = search needs
 
--- src/main.rt:89:32
 part-count-end : tie.Need-part-count-end Inv-loop μ-loop
-part-count-end c = ?
+part-count-end c = search needs
 
--- src/main.rt:89:13
 count-requires : tie.Need-count-requires Inv-loop μ-loop
-count-requires c κs = ?
+count-requires c κs = search needs
 
--- src/main.rt:91:13
 same-length-2 : tie.Need-same-length-2 Inv-loop μ-loop
-same-length-2 c = ?
+same-length-2 c = search needs
 
--- src/main.rt:91:13
 returns-2 : tie.Need-returns-2 Inv-loop μ-loop
-returns-2 c = ?
+returns-2 c = search needs
 
--- src/main.rt:93:9
 add-at : tie.Need-add-at Inv-loop μ-loop
-add-at c = ?
+add-at c = search needs
 
--- src/main.rt:84:5
 loop-less : tie.Need-loop-less Inv-loop μ-loop
-loop-less c = ?
+loop-less c = search needs
 
--- src/main.rt:84:5
 loop-again : tie.Need-loop-again Inv-loop μ-loop
-loop-again c = ?
+loop-again c = search needs
 
--- src/main.rt:82:1
 same-length-3 : tie.Need-same-length-3 Inv-loop μ-loop
-same-length-3 c = ?
+same-length-3 c = search needs
 
--- src/main.rt:82:1
 returns-3 : tie.Need-returns-3 Inv-loop μ-loop
-returns-3 c = ?
+returns-3 c = search needs
 
 pub fill-spec : {M : Type 1} → statement M
 fill-spec =

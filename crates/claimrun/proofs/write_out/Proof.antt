@@ -1,71 +1,58 @@
+-- Bytes are written from the start on, and never past the end.
+use mathlib.Core.Path.{_≡_}
+use Prim.Native.Nat.{_-_, _≤_}
+use lib.ListN.{length}
+use borrow.Author.Needs.{needs}
 use Rattle.claimrun.proofs.write_out.Statement.{statement}
 use Rattle.claimrun.proofs.write_out.Tie as tie
-use Rattle.claimrun.proofs.write_out.Reads as reads
-use Rattle.claimrun.proofs.write_out.Lts as lts
-use Rattle.claimrun.proofs.write_some.Reads as write-some-reads
-use Rattle.io.proofs.count.Reads as count-reads
 
 abbrev Inv-loop : tie.InvT-loop
-Inv-loop buf at₀ at = ?
+Inv-loop buf at₀ at = at ≤ length buf
 
 abbrev μ-loop : tie.MeasureT-loop
-μ-loop buf at₀ at = ?
+μ-loop buf at₀ at = length buf - at
 
--- src/main.rt:64:5
 loop-holds : tie.Need-loop-holds Inv-loop μ-loop
-loop-holds c = ?
+loop-holds c = search needs
 
--- src/main.rt:65:53
 sub-write-some : tie.Need-sub-write-some Inv-loop μ-loop
-sub-write-some c = ?
+sub-write-some c = search needs
 
--- src/main.rt:65:53
 part-write-some-start : tie.Need-part-write-some-start Inv-loop μ-loop
-part-write-some-start c = ?
+part-write-some-start c = search needs
 
--- src/main.rt:65:53
 part-write-some-end : tie.Need-part-write-some-end Inv-loop μ-loop
-part-write-some-end c = ?
+part-write-some-end c = search needs
 
--- src/main.rt:65:27
 write-some-requires : tie.Need-write-some-requires Inv-loop μ-loop
-write-some-requires c κs = ?
+write-some-requires c κs = search needs
 
--- src/main.rt:65:66
 sub-count : tie.Need-sub-count Inv-loop μ-loop
-sub-count c = ?
+sub-count c = search needs
 
--- src/main.rt:65:66
 part-count-start : tie.Need-part-count-start Inv-loop μ-loop
-part-count-start c = ?
+part-count-start c = search needs
 
--- src/main.rt:65:66
 part-count-end : tie.Need-part-count-end Inv-loop μ-loop
-part-count-end c = ?
+part-count-end c = search needs
 
--- src/main.rt:65:13
 count-requires : tie.Need-count-requires Inv-loop μ-loop
-count-requires c κs = ?
+count-requires c κs = search needs
 
--- src/main.rt:67:13
 returns : tie.Need-returns Inv-loop μ-loop
-returns c = ?
+returns c = search needs
 
--- src/main.rt:69:9
 add-at : tie.Need-add-at Inv-loop μ-loop
-add-at c = ?
+add-at c = search needs
 
--- src/main.rt:64:5
 loop-less : tie.Need-loop-less Inv-loop μ-loop
-loop-less c = ?
+loop-less c = search needs
 
--- src/main.rt:64:5
 loop-again : tie.Need-loop-again Inv-loop μ-loop
-loop-again c = ?
+loop-again c = search needs
 
--- src/main.rt:62:1
 returns-2 : tie.Need-returns-2 Inv-loop μ-loop
-returns-2 c = ?
+returns-2 c = search needs
 
 pub write-out-spec : {M : Type 1} → statement M
 write-out-spec =
