@@ -12,6 +12,7 @@
 #ifndef CLAIM_TRACKER_H
 #define CLAIM_TRACKER_H
 
+#include <stdbool.h>
 #include <stddef.h>
 #include <stdint.h>
 
@@ -28,7 +29,8 @@ enum {
     CLAIM_TRACKER_CLOSE_BYTES = 4,
     CLAIM_TRACKER_CLAIM_BYTES = 35,
     CLAIM_TRACKER_ANSWER_BYTES = 6,
-    CLAIM_TRACKER_LINE_BYTES = 64
+    CLAIM_TRACKER_LINE_BYTES = 64,
+    CLAIM_TRACKER_RECORD_ROOM = 65542
 };
 
 /* A book's day, yyyymmdd, and the number of its accepted transfers. Its balances are the caller's 4,096 words: word 256s + 16l + b is
@@ -43,6 +45,16 @@ struct claim_tracker_done {
     uint16_t number;
     struct claim_tracker_book book;
     size_t claims;
+};
+
+/* What a run of a stream answers: the number 1 to 4 that calendar, tables, book or balances meet, or 0; the book after it, how many bytes
+   of the input were worked, how many of the output were written, and whether a 5 has ended the stream. */
+struct claim_tracker_served {
+    uint16_t number;
+    struct claim_tracker_book book;
+    size_t consumed;
+    size_t written;
+    bool over;
 };
 
 /* The fields of a transfer, kind 1; its two lines of free text are apart. */
@@ -111,6 +123,16 @@ struct claim_tracker_done claim_tracker_transfer(const uint32_t *calendar, size_
 struct claim_tracker_done claim_tracker_close(const uint32_t *calendar, size_t calendar_words, const uint32_t *tables, size_t table_words,
                                               struct claim_tracker_book book, uint64_t *balances, size_t balance_words,
                                               const uint8_t *message, size_t message_bytes, uint8_t *claims, size_t claim_bytes);
+
+/* Serves a run of input: works its records one after the other, each with a claim buffer of 64 KiB, and writes for each its claims and then
+   its answer. It stops at a record that is not whole yet, when the output has no room for another record (CLAIM_TRACKER_RECORD_ROOM bytes),
+   or after a 5, which is the answer to what is no record, and, with ended, to the beginning of one. The caller writes out what was
+   written, hands over again the bytes that were not worked, with those that have arrived since, and ends once over is true. However the
+   input is cut, all that is written is the same. Numbers 1 to 4: nothing is worked or written, and the book given is returned. */
+struct claim_tracker_served claim_tracker_serve(const uint32_t *calendar, size_t calendar_words, const uint32_t *tables, size_t table_words,
+                                                struct claim_tracker_book book, uint64_t *balances, size_t balance_words,
+                                                const uint8_t *input, size_t input_bytes, bool ended, uint8_t *output,
+                                                size_t output_bytes);
 
 /* Reads the record of a kind at the message's start; the bytes behind it are not looked at, and no field is judged. */
 struct claim_tracker_transfer_reading claim_tracker_read_transfer(const uint8_t *message, size_t message_bytes);

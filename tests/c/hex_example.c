@@ -111,6 +111,22 @@ int main(void) {
     check("the answer read back", answer.number == 0 && answer.answer.number == 0);
     check("an answer cut short", claim_tracker_read_answer(out + 35, 5).number == 5);
 
+    static uint8_t output[CLAIM_TRACKER_RECORD_ROOM + 41];
+    static uint8_t records[2 * CLAIM_TRACKER_TRANSFER_BYTES];
+    memcpy(records, message, CLAIM_TRACKER_TRANSFER_BYTES);
+    memcpy(records + CLAIM_TRACKER_TRANSFER_BYTES, message, CLAIM_TRACKER_TRANSFER_BYTES);
+    book = claim_tracker_open(calendar, 480, tables, 1824, balances, 4096, 20230404).book;
+    struct claim_tracker_served served =
+        claim_tracker_serve(calendar, 480, tables, 1824, book, balances, 4096, records, sizeof records - 1, false, output, sizeof output);
+    check("a run stops at a cut record", served.number == 0 && served.book.count == 1 && served.consumed == 141 && served.written == 41
+                                             && !served.over && memcmp(output, expected, sizeof expected) == 0);
+    served = claim_tracker_serve(calendar, 480, tables, 1824, served.book, balances, 4096, records + 141, 141, true, output, sizeof output);
+    check("and goes on with it", served.number == 0 && served.book.count == 2 && served.consumed == 141 && served.written == 41 && !served.over);
+    served = claim_tracker_serve(calendar, 480, tables, 1824, served.book, balances, 4096, records, 140, true, output, sizeof output);
+    check("a record cut by the end gets 5", served.consumed == 0 && served.written == 6 && served.over && output[4] == 5);
+    served = claim_tracker_serve(calendar, 480, tables, 1823, served.book, balances, 4096, records, 141, true, output, sizeof output);
+    check("a short table stops a run", served.number == 1 && served.consumed == 0 && served.written == 0 && !served.over);
+
     fields.code = 1;
     fields.par = 15000;
     memset(first, ' ', sizeof first);

@@ -4,3 +4,4 @@ pub mod Runs
 pub mod Cuts
 pub mod Theorem
 pub mod Bounds
+pub mod Rows

@@ -2,3 +2,4 @@
 // with document 01's numbers.
 pub mod calls;
 pub mod messages;
+pub mod streams;

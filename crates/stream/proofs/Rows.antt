@@ -1,0 +1,116 @@
+-- Computed rows: what inputs begin with, and document 01's hex example as a stream, at full size: its claim and answer, the answer to a
+-- close, and a 5 for what stands behind them; then the same bytes where more may follow, and in an output without room.
+use mathlib.Core.Path.{_≡_, refl}
+use mathlib.Core.Bool.{Bool, true, false, cond, not, _&&_}
+use mathlib.Core.List.{List, [], _∷_, _++_}
+use Prim.Native.Nat.{ℕ, _+_, _-_}
+use lib.Dec.{eqb}
+use lib.ListN.{replicate, take}
+use Rattle.lists.specs.Tests.{below}
+use Rattle.lists.specs.All.{all}
+use Rattle.lists.specs.Numbers.{bytesOf, numberOf}
+use Rattle.lists.specs.Fields.{total, encode, decode}
+use Rattle.lists.specs.First.{firstOf}
+use Rattle.lists.specs.Sums.{sum}
+use Rattle.lists.specs.Select.{select, lastOf}
+use Rattle.lists.specs.Tabulate.{tabulate, each, eachOf}
+use Rattle.days.specs.Days.{leapDay, monthLength, isDate, wordOf, dateOf, lengthOf, bitOn, badFrom, badCalendar, isOpen, lowestFrom, seekFrom, openAt, openAfter, openFrom, highestBelow, lastBelow, lastOpen}
+use Rattle.days.specs.Weekdays.{isWeekday, weekdayWord, weekdaysFrom, weekdays}
+use Rattle.records.specs.MessageRecords.{transferKind, closeKind, claimKind, size, recordBytes, claimValues, transferOf, firstLine, secondLine, headed, reads}
+use Rattle.securities.specs.Securities.{securityOf, typeOf, frequencyOf, rowOf, rowsFrom, rowsOf, isEmpty, isFilled, filledRows, goodRow, goodRows, goodSecurity, goodTables}
+use Rattle.securities.specs.Cases.{caseTables}
+use Rattle.tags.specs.ContractDateTag.{opener, same, tagged, openersFrom, openers, endIn, endFrom, isDigit, digitsAfter, digitsNumber, writesDate, tagHolding, tagAt, tagOf, contractDate, isSeveral, isUnended, isNotDate, editCauses}
+use Rattle.claims.specs.Amounts.{centsOn, amount, outcomeOf, isLate, releaseOf, isEarly, slotOf, claimOn}
+use Rattle.claims.specs.Fails.{messageTag, maximumNumbers, maximumFor, eligibleIn, eligible, fails, dues, transferParties, transferClaims}
+use Rattle.claims.specs.Close.{crosses, crossed, loanParties, loanClaim, securityBalances, lenderBalances, rowClaims, closeClaims}
+use Rattle.claims.specs.Written.{claimBytes, bytesOfAll, written}
+use Rattle.book.specs.Book.{word, position, balanceAt}
+use Rattle.book.specs.Loans.{increasing, decreasing, bySender, byReceiver, changeOf, changed, aboveBalance, pastLimit, loanCauses}
+use Rattle.book.specs.Soundness.{wrongLength, badDay, goodBalance, goodBalancesFrom, badBalances, tableCauses, bookCauses}
+use Rattle.history.specs.Calls.{bufferOf, claimsOf}
+use Rattle.history.specs.Causes.{recordCauses, outOfRange, fieldCauses, countCauses, lastDayCauses, roomCauses, transferCauses, callCauses, causes, numberFor}
+use Rattle.book.specs.declared.Book.{Book}
+use Rattle.history.specs.Results.{nextBook, nextBalances, resultFor, result, run}
+use Rattle.records.specs.MessageRecords.{answerKind}
+use Rattle.stream.specs.declared.Next.{Next}
+use Rattle.stream.specs.declared.Next.the-variants.{Waiting, Wrong, Record}
+use Rattle.stream.specs.Stream.{header, unready, next, callWith, callFor, answerBytes, emitted, emittedAll, onNext, added, split, callsOf, ending, streamBytes}
+use Rattle.stream.specs.Serving.{Serving, stopped, endedByFive, after, serveUpTo, serving}
+
+-- ---- bytes
+
+-- the first case's transfer from account 1 to 2 in security 0, class and code 0, par 200,000, with Contract Date 20230315
+message : List ℕ
+message =
+    (139 ∷ 0 ∷ 1 ∷ 0 ∷ 1 ∷ 2 ∷ 0 ∷ 0 ∷ 0 ∷ 64 ∷ 13 ∷ 3 ∷ 0 ∷ [])
+    ++ ((123 ∷ 57 ∷ 56 ∷ 65 ∷ 58 ∷ 67 ∷ 78 ∷ 84 ∷ 82 ∷ 47 ∷ 50 ∷ 48 ∷ 50 ∷ 51 ∷ 48 ∷ 51 ∷ 49 ∷ 53 ∷ 125 ∷ []) ++ replicate 109 32)
+
+closing : List ℕ
+closing = 2 ∷ 0 ∷ 2 ∷ 0 ∷ []
+
+-- document 01's hex example
+example : List ℕ
+example =
+    33 ∷ 0 ∷ 3 ∷ 0 ∷ 1 ∷ 0 ∷ 1 ∷ 2 ∷ 0 ∷ 0 ∷ 1 ∷ 0 ∷ 0 ∷ 0 ∷ 160 ∷ 134 ∷ 1 ∷ 0 ∷ 0 ∷ 0 ∷ 0 ∷ 0 ∷ 0 ∷ 0 ∷ 0 ∷ 0 ∷ 0 ∷ 0 ∷ 0 ∷ 0 ∷ 17 ∷ 177 ∷ 52 ∷ 1 ∷ 3
+    ∷ 4 ∷ 0 ∷ 4 ∷ 0 ∷ 0 ∷ 0 ∷ []
+
+accepted : List ℕ
+accepted = 4 ∷ 0 ∷ 4 ∷ 0 ∷ 0 ∷ 0 ∷ []
+
+five : List ℕ
+five = 4 ∷ 0 ∷ 4 ∷ 0 ∷ 5 ∷ 0 ∷ []
+
+-- ---- what inputs begin with
+
+sameNext : Next → Next → Bool
+sameNext (Record n) (Record m) = eqb n m
+sameNext (Record n) Waiting = false
+sameNext (Record n) Wrong = false
+sameNext Waiting (Record m) = false
+sameNext Waiting Waiting = true
+sameNext Waiting Wrong = false
+sameNext Wrong (Record m) = false
+sameNext Wrong Waiting = false
+sameNext Wrong Wrong = true
+
+begins : Bool
+begins =
+    sameNext (next true []) Waiting && sameNext (next false []) Waiting
+    && sameNext (next true (139 ∷ 0 ∷ 1 ∷ [])) Wrong && sameNext (next false (139 ∷ 0 ∷ 1 ∷ [])) Waiting
+    && sameNext (next true (take 140 message)) Wrong && sameNext (next false (take 140 message)) Waiting
+    && sameNext (next true message) (Record 141) && sameNext (next false (message ++ closing)) (Record 141)
+    && sameNext (next false closing) (Record 4) && sameNext (next true (closing ++ message)) (Record 4)
+    && sameNext (next false (2 ∷ 0 ∷ 1 ∷ 0 ∷ [])) Wrong && sameNext (next false (139 ∷ 0 ∷ 2 ∷ 0 ∷ [])) Wrong
+    && sameNext (next false (139 ∷ 1 ∷ 1 ∷ 0 ∷ [])) Wrong && sameNext (next false (2 ∷ 0 ∷ 2 ∷ 1 ∷ [])) Wrong
+    && sameNext (next false (33 ∷ 0 ∷ 3 ∷ 0 ∷ [])) Wrong && sameNext (next true (4 ∷ 0 ∷ 4 ∷ 0 ∷ 0 ∷ 0 ∷ [])) Wrong
+
+-- ---- the hex example
+
+sameBytes : List ℕ → List ℕ → Bool
+sameBytes [] [] = true
+sameBytes [] (y ∷ ys) = false
+sameBytes (x ∷ xs) [] = false
+sameBytes (x ∷ xs) (y ∷ ys) = eqb x y && sameBytes xs ys
+
+book : Book
+book = record { day = 20230404; count = 0 }
+
+input : List ℕ
+input = message ++ (closing ++ (139 ∷ 0 ∷ 1 ∷ []))
+
+-- a run's day, count, bytes worked, bytes written, and whether a 5 has ended it
+sameRun : Serving → ℕ → ℕ → ℕ → List ℕ → Bool → Bool
+sameRun s day count consumed bytes over =
+    eqb (s .book .day) day && eqb (s .book .count) count && eqb (s .consumed) consumed && sameBytes (s .bytes) bytes
+    && cond (s .over) over (not over)
+
+runs : Bool
+runs =
+    sameRun (serving weekdays caseTables true book (replicate 4096 0) input 200000) 20230405 1 145 (example ++ (accepted ++ five)) true
+    && sameRun (serving weekdays caseTables false book (replicate 4096 0) input 200000) 20230405 1 145 (example ++ accepted) false
+    && sameRun (serving weekdays caseTables true book (replicate 4096 0) input 65582) 20230404 1 141 example false
+    && sameBytes (streamBytes weekdays caseTables book (replicate 4096 0) input) (example ++ (accepted ++ five))
+
+rows-hold : begins && runs ≡ true
+unfolding below all each tabulate message closing example accepted five sameNext begins sameBytes book input sameRun runs bytesOf numberOf total encode decode firstOf sum select lastOf eachOf leapDay monthLength isDate wordOf dateOf lengthOf bitOn badFrom badCalendar isOpen lowestFrom seekFrom openAt openAfter openFrom highestBelow lastBelow lastOpen isWeekday weekdayWord weekdaysFrom weekdays transferKind closeKind claimKind size recordBytes claimValues transferOf firstLine secondLine headed reads securityOf typeOf frequencyOf rowOf rowsFrom rowsOf isEmpty isFilled filledRows goodRow goodRows goodSecurity goodTables caseTables opener same tagged openersFrom openers endIn endFrom isDigit digitsAfter digitsNumber writesDate tagHolding tagAt tagOf contractDate isSeveral isUnended isNotDate editCauses centsOn amount outcomeOf isLate releaseOf isEarly slotOf claimOn messageTag maximumNumbers maximumFor eligibleIn eligible fails dues transferParties transferClaims crosses crossed loanParties loanClaim securityBalances lenderBalances rowClaims closeClaims claimBytes bytesOfAll written word position balanceAt increasing decreasing bySender byReceiver changeOf changed aboveBalance pastLimit wrongLength badDay goodBalance goodBalancesFrom badBalances tableCauses bookCauses bufferOf claimsOf recordCauses outOfRange fieldCauses countCauses loanCauses lastDayCauses roomCauses transferCauses callCauses causes numberFor nextBook nextBalances resultFor result run header unready next callWith callFor answerBytes emitted emittedAll onNext added split callsOf ending streamBytes stopped endedByFive after serveUpTo serving answerKind
+rows-hold = refl
