@@ -1,6 +1,8 @@
 // Tries stored vectors: each is run, and what it gives is compared with what it should give.
 mod calls;
+mod streams;
 
 fn main() {
     calls::try_calls();
+    streams::try_streams();
 }

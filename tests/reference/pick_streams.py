@@ -1,0 +1,67 @@
+"""Stored vectors of streams for the program vectors, by the reference.
+
+    python3 pick_streams.py REFERENCE_FOLDER SEED COUNT FOLDER
+
+makes random streams by the reference's make_vectors.py and writes COUNT of them to FOLDER/streams.in: for each the bytes of book.dat (none
+where it is missing), the input, and all that claimrun writes, each behind its length of four bytes. It takes first the streams that show
+an answer or a combination of claim type, outcome and slot that no stream before them shows, then the smallest others. It prints what the
+streams cover, and fails where a claim type, an outcome, a slot or an answer that a stream can get is missing.
+"""
+import os
+import struct
+import subprocess
+import sys
+import tempfile
+
+folder, seed, count, out = sys.argv[1], sys.argv[2], int(sys.argv[3]), sys.argv[4]
+NUMBERS = {0, 1, 2, 3, 4, 5, 6, 7, 8, 9, 10, 132, 133, 135, 138, 139}
+CANDIDATES = 6 * count
+LARGEST = 200000
+
+
+def content(*names) -> bytes:
+    path = os.path.join(*names)
+    if not os.path.exists(path):
+        return b""
+    with open(path, "rb") as file:
+        return file.read()
+
+
+def shown(expected: bytes) -> set:
+    """The answers and the kinds of claims among the records written."""
+    facts, at = set(), 0
+    while at < len(expected):
+        following, kind = struct.unpack_from("<HH", expected, at)
+        if kind == 3:
+            facts.add(("claim", expected[at + 4], expected[at + 5], expected[at + 34]))
+        else:
+            facts.add(("answer", struct.unpack_from("<H", expected, at + 4)[0]))
+        at += 2 + following
+    return facts
+
+
+with tempfile.TemporaryDirectory() as made:
+    subprocess.run([sys.executable, "-B", os.path.join(folder, "vectors", "make_vectors.py"), seed, str(CANDIDATES), made],
+                   check=True, stdout=subprocess.DEVNULL)
+    streams = [tuple(content(made, name, part) for part in ("book.dat", "input.dat", "expected.dat")) for name in sorted(os.listdir(made))]
+seen, first, others = set(), [], []
+for i, stream in sorted(enumerate(streams), key=lambda entry: (sum(map(len, entry[1])), entry[0])):
+    if sum(map(len, stream)) > LARGEST:
+        continue
+    facts = shown(stream[2])
+    (others if facts <= seen else first).append((i, stream))
+    seen |= facts
+picked = sorted((first + others)[:count])
+covered = set().union(*(shown(stream[2]) for _, stream in picked))
+os.makedirs(out, exist_ok=True)
+with open(os.path.join(out, "streams.in"), "wb") as file:
+    for _, stream in picked:
+        file.write(b"".join(struct.pack("<I", len(part)) + part for part in stream))
+print("%d streams, places %s" % (len(picked), " ".join(str(i) for i, _ in picked)))
+print("answers", sorted(fact[1] for fact in covered if fact[0] == "answer"))
+print("claims (type, outcome, slot)", sorted(fact[1:] for fact in covered if fact[0] == "claim"))
+missing = NUMBERS - {fact[1] for fact in covered if fact[0] == "answer"}
+for at, values in ((1, {1, 3}), (2, {0, 1, 2, 3}), (3, {0, 1, 2, 3})):
+    missing |= values - {fact[at] for fact in covered if fact[0] == "claim"}
+if missing or len(picked) < count:
+    sys.exit("missing: %s" % sorted(missing))
