@@ -2,4 +2,5 @@
 // with document 01's numbers.
 pub mod calls;
 pub mod messages;
+pub mod own_book;
 pub mod streams;

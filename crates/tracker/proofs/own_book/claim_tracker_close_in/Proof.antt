@@ -1,0 +1,20 @@
+-- The second form of the close meets its contract: the shared walk, over the by-value close.
+use contract.Running.{givenOf, tables, tablesOf}
+use denote.Triple.Spec.{tripleOf}
+use denote.Triple.Table.{entered, cited}
+use Rattle.history.specs.Calls.{Call}
+use Rattle.tracker.proofs.Walk.{Callee, meets}
+use Rattle.tracker.proofs.calls.claim_tracker_close.Symbol as by-value
+use Rattle.tracker.proofs.calls.claim_tracker_close.Met as by-value-met
+use Rattle.tracker.proofs.own_book.claim_tracker_close_in as own
+use Rattle.tracker.proofs.own_book.claim_tracker_close_in.Key.{name as #own}
+use Rattle.tracker.proofs.own_book.claim_tracker_close_in.Statement.{statement}
+use Rattle.tracker.proofs.own_book.claim_tracker_close_in.Code as code
+
+pub claim-tracker-close-in-spec : {M : Type 1} → statement M
+unfolding code.routine tablesOf
+claim-tracker-close-in-spec 𝓤 H 𝓜 𝓖 𝓡 =
+    entered 𝓤 H (tripleOf 𝓤 H (𝓖 .A) own.signature (own.spec 𝓤 H (𝓖 .A) (𝓜 .mem) (𝓡 .run)))
+    (tables 𝓤 H 𝓜 𝓡 code.env .C) (tables 𝓤 H 𝓜 𝓡 code.env .Λ) #own code.function (code.unfolded 𝓤 H 𝓜 𝓡)
+    (meets by-value.name Call.close 𝓤 H (𝓖 .A) (givenOf 𝓤 H 𝓜 𝓖) (tablesOf 𝓤 H 𝓜 (tables 𝓤 H 𝓜 𝓡 code.env))
+    (cited 𝓤 H (Callee by-value.name Call.close 𝓤 H (𝓖 .A)) 𝓜 𝓡 code.env by-value.name by-value.routine code.calls-tracker·calls·claim-tracker-close (by-value-met.met 𝓤 H 𝓜 𝓖 𝓡)))
