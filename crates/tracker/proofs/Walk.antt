@@ -52,10 +52,10 @@ use Rattle.tracker.proofs.calls.claim_tracker_transfer as g
 use Rattle.tracker.proofs.own_book.claim_tracker_transfer_in as f
 
 -- The type of a slice, and of a local.
-abbrev slice : Lifetime → Mutability → Width → Ty
+abbrev pub slice : Lifetime → Mutability → Width → Ty
 slice κ m w = tyStruct (38 ∷ 91 ∷ 93 ∷ []) (tcons (tyRef κ m (tyInt w)) (tcons (tyInt w64) tnil))
 
-abbrev holds : Ty → Local
+abbrev pub holds : Ty → Local
 holds τ = local τ valueLocal
 
 -- The MIR of the second form over a by-value call of any name.
@@ -105,7 +105,7 @@ stayed = (
 )
 
 -- the machine value of a book, and a reply and its machine value
-abbrev book-val : Book → Val
+abbrev pub book-val : Book → Val
 book-val k = LL.val T.the-type T′.the-laws k
 
 abbrev reply-of : Done → Reply
@@ -122,23 +122,30 @@ module _ (d : Done) (v : Val) (is : Is D.the-row d (v ∷ [])) where
   reply-is : Is R.the-row (reply-of d) (reply-val d ∷ [])
   reply-is = LL.owes R.the-type R′.the-laws (reply-of d) (LL.owed D.the-type D′.the-laws d _ is .0, (LL.owed D.the-type D′.the-laws d _ is .1 .1 .0, tt))
 
-module _ (#callee : Name) (is-call : Arguments → Call) {M : Type 1} (𝓤 : URA M) (H : Heap 𝓤) (A : Atoms 𝓤) where
-  -- the two contracts
-  abbrev pub by-value : Clauses 𝓤 g.ended
-  by-value κs a = record {
+-- the contracts of the two forms
+module _ (is-call : Arguments → Call) {M : Type 1} (𝓤 : URA M) where
+  abbrev pub by-value-clauses : Clauses 𝓤 g.ended
+  by-value-clauses κs a = record {
     ghost = Unit {0};
     requires = λ _. emp 𝓤;
     ensures = λ _ d e. fact 𝓤 (Gives (now (a .0)) (now (a .1 .0)) (a .1 .1 .0) (now (a .1 .1 .1 .0)) (is-call (record { message = now (a .1 .1 .1 .1 .0); buffer = now (a .1 .1 .1 .1 .1 .0) }))
         d (now (e .1 .1 .1 .1 .1 .0)) (now (e .1 .1 .1 .0)));
   }
 
-  abbrev pub second : Clauses 𝓤 f.ended
-  second κs a = record {
+  abbrev pub second-clauses : Clauses 𝓤 f.ended
+  second-clauses κs a = record {
     ghost = Unit {0};
     requires = λ _. emp 𝓤;
     ensures = λ _ r e. fact 𝓤 (Gives (now (a .0)) (now (a .1 .0)) (now (a .1 .1 .0)) (now (a .1 .1 .1 .0)) (is-call (record { message = now (a .1 .1 .1 .1 .0); buffer = now (a .1 .1 .1 .1 .1 .0) }))
         (together r (now (e .1 .1 .0))) (now (e .1 .1 .1 .1 .1 .0)) (now (e .1 .1 .1 .0)));
   }
+
+module _ (#callee : Name) (is-call : Arguments → Call) {M : Type 1} (𝓤 : URA M) (H : Heap 𝓤) (A : Atoms 𝓤) where
+  abbrev by-value : Clauses 𝓤 g.ended
+  by-value = by-value-clauses is-call 𝓤
+
+  abbrev second : Clauses 𝓤 f.ended
+  second = second-clauses is-call 𝓤
 
   abbrev pub Callee : Contract 𝓤
   Callee = tripleOf 𝓤 H A g.signature (closing 𝓤 H A g.ended by-value)
