@@ -1,0 +1,48 @@
+-- Lists of calls in the second form. Each call keeps its contract on the caller's own book and balances as the last one left them.
+-- Demand 3 holds of such a list as it holds of the by-value calls.
+use mathlib.Core.Path.{_≡_}
+use mathlib.Core.List.{List, [], _∷_}
+use Prim.Native.Nat.{ℕ}
+use Rattle.book.specs.declared.Book.{Book}
+use Rattle.history.specs.Calls.{Call}
+use Rattle.history.specs.Results.{Run, left, opened}
+use Rattle.history.specs.Ledger.{started, judged}
+use Rattle.history.specs.Statement.{AgreesWithLedger}
+use Rattle.tracker.specs.declared.own_book.Reply.{Reply}
+use Rattle.tracker.specs.Forms.{Gives, together}
+
+-- A call of a list: its reply, and the caller's book, claim buffer and balances after it.
+pub record Step : Type 0 where
+  pub reply : Reply
+  pub book : Book
+  pub buffer : List ℕ
+  pub balances : List ℕ
+
+-- One step for each call. Each keeps the call's contract on the book and balances that the last one left.
+abbrev pub AllKeep : List ℕ → List ℕ → Book → List ℕ → List Call → List Step → Type 0
+AllKeep calendar tables book balances [] [] = Unit {0}
+AllKeep calendar tables book balances [] (s ∷ steps) = ⊥
+AllKeep calendar tables book balances (call ∷ calls) [] = ⊥
+AllKeep calendar tables book balances (call ∷ calls) (s ∷ steps) =
+    Gives calendar tables book balances call (together (s .reply) (s .book)) (s .buffer) (s .balances)
+    × AllKeep calendar tables (s .book) (s .balances) calls steps
+
+-- What the steps show: each answer, and the caller's book and balances after the list.
+unfoldable pub runOf : Book → List ℕ → List Step → Run
+runOf book balances [] = record { answers = []; book = book; balances = balances }
+runOf book balances (s ∷ steps) =
+    let rest = runOf (s .book) (s .balances) steps in
+    record {
+      answers = left (together (s .reply) (s .book)) (s .buffer) (s .balances) .answer ∷ rest .answers;
+      book = rest .book;
+      balances = rest .balances;
+    }
+
+-- Every list of calls in the second form from an accepted opening agrees with the ledger of accepted calls.
+abbrev pub EveryOwnBookHistory : Type 0
+EveryOwnBookHistory = (calendar tables balances : List ℕ) (day : ℕ) → opened calendar tables balances day .number ≡ 0
+    → (calls : List Call) (steps : List Step)
+    → AllKeep calendar tables (opened calendar tables balances day .book) (opened calendar tables balances day .balances) calls steps
+    → AgreesWithLedger calendar tables day calls
+    (runOf (opened calendar tables balances day .book) (opened calendar tables balances day .balances) steps)
+    (judged calendar tables (started day) calls)
