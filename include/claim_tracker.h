@@ -1,9 +1,9 @@
 /* The claim tracker: fails and loaned securities of one book of 16 accounts and 16 securities.
 
    Link with libtracker.a (rt staticlib tracker), x86-64 Linux. Every function takes any values whatever, returns, reads nothing beyond
-   the elements that it is given and writes nothing but what its comment names. A pointer is followed by the count of its elements, may
-   not be null (with a count of 0 it may point anywhere but null), and is aligned for its type. What a function writes to may not overlap
-   anything else that it is given. The rules are those of the tracker's paper, document 01.
+   the elements that it is given and writes nothing but what its comment names. A count that follows a pointer is that of its elements.
+   No pointer may be null (with a count of 0 it may point anywhere but null), and each is aligned for its type. What a function writes to
+   may not overlap anything else that it is given. The rules are those of the tracker's paper, document 01.
 
    Numbers: 0 accepted; 1 a wrong length, 2 the calendar, 3 the tables, 4 the book's day or a balance, 5 the record, 6 a field,
    7 a decrease above the balance, 8 an increase past 9,000,000,000, 9 no open day after the next one, 10 no room for the claims,
@@ -44,6 +44,12 @@ struct claim_tracker_book {
 struct claim_tracker_done {
     uint16_t number;
     struct claim_tracker_book book;
+    size_t claims;
+};
+
+/* What a call on the caller's own book replies: its number, and how many claims stand from the claim buffer's start. */
+struct claim_tracker_reply {
+    uint16_t number;
     size_t claims;
 };
 
@@ -123,6 +129,20 @@ struct claim_tracker_done claim_tracker_transfer(const uint32_t *calendar, size_
 struct claim_tracker_done claim_tracker_close(const uint32_t *calendar, size_t calendar_words, const uint32_t *tables, size_t table_words,
                                               struct claim_tracker_book book, uint64_t *balances, size_t balance_words,
                                               const uint8_t *message, size_t message_bytes, uint8_t *claims, size_t claim_bytes);
+
+/* Works a transfer as claim_tracker_transfer does, on the caller's own book: accepted, it counts there. Refused: the number, no claims,
+   and book, balances and claim buffer as they were. On the same values both forms give and leave the same. */
+struct claim_tracker_reply claim_tracker_transfer_in(const uint32_t *calendar, size_t calendar_words, const uint32_t *tables,
+                                                     size_t table_words, struct claim_tracker_book *book, uint64_t *balances,
+                                                     size_t balance_words, const uint8_t *message, size_t message_bytes, uint8_t *claims,
+                                                     size_t claim_bytes);
+
+/* Works a close as claim_tracker_close does, on the caller's own book: accepted, its day moves to the next open day. Refused: the number,
+   no claims, and book, balances and claim buffer as they were. On the same values both forms give and leave the same. */
+struct claim_tracker_reply claim_tracker_close_in(const uint32_t *calendar, size_t calendar_words, const uint32_t *tables,
+                                                  size_t table_words, struct claim_tracker_book *book, uint64_t *balances,
+                                                  size_t balance_words, const uint8_t *message, size_t message_bytes, uint8_t *claims,
+                                                  size_t claim_bytes);
 
 /* Serves a run of input: works its records one after the other, each with a claim buffer of 64 KiB, and writes for each its claims and then
    its answer. It stops at a record that is not whole yet, when the output has no room for another record (CLAIM_TRACKER_RECORD_ROOM bytes),

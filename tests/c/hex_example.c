@@ -1,5 +1,6 @@
 /* Replays document 01's hex example through the exported functions: the book opened on 20230404 with the cases' tables, the first
-   case's transfer from account 1 to 2, and all bytes that come out. Then the codecs both ways, a close and refusals. */
+   case's transfer from account 1 to 2, and all bytes that come out. Then the codecs both ways, a close, refusals, and both calls on the
+   caller's own book. */
 #include <stdio.h>
 #include <string.h>
 
@@ -145,6 +146,21 @@ int main(void) {
                                          && claim.claim.transfer == 0 && claim.claim.interest == 7500);
     done = claim_tracker_close(calendar, 479, tables, 1824, done.book, balances, 4096, close, 4, out, sizeof out);
     check("a short calendar", done.number == 1 && done.book.day == 20230403 && done.claims == 0);
+
+    struct claim_tracker_reply reply;
+    book = claim_tracker_open(calendar, 480, tables, 1824, balances, 4096, 20230331).book;
+    reply = claim_tracker_transfer_in(calendar, 480, tables, 1824, &book, balances, 4096, message, sizeof message, out, 0);
+    check("a loan's start on the caller's book", reply.number == 0 && reply.claims == 0 && book.day == 20230331 && book.count == 1
+                                                     && balances[16 * 1 + 2] == 15000);
+    reply = claim_tracker_transfer_in(calendar, 480, tables, 1824, &book, balances, 4096, close, 4, out, sizeof out);
+    check("a close is refused as a transfer there", reply.number == 5 && reply.claims == 0 && book.day == 20230331 && book.count == 1);
+    memset(out, 0xaa, sizeof out);
+    reply = claim_tracker_close_in(calendar, 480, tables, 1824, &book, balances, 4096, close, 4, out, 34);
+    check("a close one byte short there", reply.number == 10 && reply.claims == 0 && book.day == 20230331 && out[0] == 0xaa);
+    reply = claim_tracker_close_in(calendar, 480, tables, 1824, &book, balances, 4096, close, 4, out, sizeof out);
+    claim = claim_tracker_read_claim(out, 35);
+    check("the close of 20230331 there", reply.number == 0 && reply.claims == 1 && book.day == 20230403 && book.count == 1
+                                             && claim.claim.interest == 7500 && out[35] == 0xaa);
 
     printf("%d passed, %d failed\n", passed, failed);
     return failed != 0;
