@@ -1,6 +1,5 @@
 -- `month_word` shifts by less than 32: the day stays below the month's length.
-use Prim.Native.Nat.{_-_, _≤_, _<_}
-use native.Mathlib.Omega.{arith}
+use Prim.Native.Nat.{_-_, _≤_}
 use borrow.Author.Needs.{needs}
 use Rattle.second_form_run.proofs.month_word.Statement.{statement}
 use Rattle.second_form_run.proofs.month_word.Tie as tie
