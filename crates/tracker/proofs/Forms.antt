@@ -15,7 +15,7 @@ use Rattle.history.specs.Statement.{AgreesWithLedger}
 use Rattle.history.proofs.Theorem.{every-history}
 use Rattle.tracker.specs.declared.own_book.Reply.{Reply}
 use Rattle.tracker.specs.Forms.{together, FormsAgree, AsItWas, RefusedLeaves, AcceptedTransferCounts, AcceptedCloseMoves}
-use Rattle.tracker.specs.OwnBook.{Step, AllKeep, runOf, EveryOwnBookHistory}
+use Rattle.tracker.specs.OwnBook.{stepFor, stepsOf, runOf, EveryListHasSteps, RunsAlike, EveryOwnBookHistory}
 
 -- What a result says as an answer.
 answered : Result → Done
@@ -73,19 +73,25 @@ accepted-close-moves calendar tables book balances a r own buffer after e accept
 from : Result → Run → Run
 from now rest = record { answers = now .answer ∷ rest .answers; book = rest .book; balances = rest .balances }
 
-same-run : (calendar tables : List ℕ) (book : Book) (balances : List ℕ) (calls : List Call) (steps : List Step)
-    → AllKeep calendar tables book balances calls steps → runOf book balances steps ≡ run calendar tables book balances calls
+pub runs-alike : RunsAlike
 unfolding runOf run left from
-same-run calendar tables book balances [] [] all = refl
-same-run calendar tables book balances [] (s ∷ steps) all = absurd all
-same-run calendar tables book balances (call ∷ calls) [] all = absurd all
-same-run calendar tables book balances (call ∷ calls) (s ∷ steps) all =
-    ap (from (left (together (s .reply) (s .book)) (s .buffer) (s .balances))) (same-run calendar tables (s .book) (s .balances) calls steps (all .1))
+runs-alike calendar tables book balances [] [] all = refl
+runs-alike calendar tables book balances [] (s ∷ steps) all = absurd all
+runs-alike calendar tables book balances (call ∷ calls) [] all = absurd all
+runs-alike calendar tables book balances (call ∷ calls) (s ∷ steps) all =
+    ap (from (left (together (s .reply) (s .book)) (s .buffer) (s .balances))) (runs-alike calendar tables (s .book) (s .balances) calls steps (all .1))
     ∙ ap (λ now. from now (run calendar tables (now .answer .book) (now .balances) calls)) (all .0)
+
+pub every-list-has-steps : EveryListHasSteps
+unfolding stepsOf stepFor left
+every-list-has-steps calendar tables book balances [] = tt
+every-list-has-steps calendar tables book balances (call ∷ calls) =
+    let now = result calendar tables book balances call in
+    (refl, every-list-has-steps calendar tables (now .answer .book) (now .balances) calls)
 
 pub every-own-book-history : EveryOwnBookHistory
 unfolding runFrom
 every-own-book-history calendar tables balances day begun calls steps all =
     let start = opened calendar tables balances day in
     subst (λ r. AgreesWithLedger calendar tables day calls r (judged calendar tables (started day) calls))
-    (sym (same-run calendar tables (start .book) (start .balances) calls steps all)) (every-history calendar tables balances day begun calls)
+    (sym (runs-alike calendar tables (start .book) (start .balances) calls steps all)) (every-history calendar tables balances day begun calls)

@@ -5,7 +5,7 @@ use mathlib.Core.List.{List, [], _∷_}
 use Prim.Native.Nat.{ℕ}
 use Rattle.book.specs.declared.Book.{Book}
 use Rattle.history.specs.Calls.{Call}
-use Rattle.history.specs.Results.{Run, left, opened}
+use Rattle.history.specs.Results.{Result, Run, left, result, run, opened}
 use Rattle.history.specs.Ledger.{started, judged}
 use Rattle.history.specs.Statement.{AgreesWithLedger}
 use Rattle.tracker.specs.declared.own_book.Reply.{Reply}
@@ -27,6 +27,28 @@ AllKeep calendar tables book balances (call ∷ calls) (s ∷ steps) =
     Gives calendar tables book balances call (together (s .reply) (s .book)) (s .buffer) (s .balances)
     × AllKeep calendar tables (s .book) (s .balances) calls steps
 
+-- The step that a call's result is.
+unfoldable pub stepFor : Result → Step
+stepFor r =
+    record {
+      reply = record { number = r .answer .number; claims = r .answer .claims };
+      book = r .answer .book;
+      buffer = r .answer .buffer;
+      balances = r .balances;
+    }
+
+-- The steps of a list of calls, each on what the last one left.
+unfoldable pub stepsOf : List ℕ → List ℕ → Book → List ℕ → List Call → List Step
+stepsOf calendar tables book balances [] = []
+stepsOf calendar tables book balances (call ∷ calls) =
+    let s = stepFor (result calendar tables book balances call) in
+    s ∷ stepsOf calendar tables (s .book) (s .balances) calls
+
+-- Every list of calls has steps that keep the contracts.
+abbrev pub EveryListHasSteps : Type 0
+EveryListHasSteps = (calendar tables : List ℕ) (book : Book) (balances : List ℕ) (calls : List Call)
+    → AllKeep calendar tables book balances calls (stepsOf calendar tables book balances calls)
+
 -- What the steps show: each answer, and the caller's book and balances after the list.
 unfoldable pub runOf : Book → List ℕ → List Step → Run
 runOf book balances [] = record { answers = []; book = book; balances = balances }
@@ -37,6 +59,11 @@ runOf book balances (s ∷ steps) =
       book = rest .book;
       balances = rest .balances;
     }
+
+-- Such a list runs as the list of by-value calls.
+abbrev pub RunsAlike : Type 0
+RunsAlike = (calendar tables : List ℕ) (book : Book) (balances : List ℕ) (calls : List Call) (steps : List Step)
+    → AllKeep calendar tables book balances calls steps → runOf book balances steps ≡ run calendar tables book balances calls
 
 -- Every list of calls in the second form from an accepted opening agrees with the ledger of accepted calls.
 abbrev pub EveryOwnBookHistory : Type 0
