@@ -1,28 +1,17 @@
 // Runs document 01's loan cases in both forms: start 50,000, return 20,000, ADSR 15,000 and ADSR 15,001, then the close of 20230331,
 // first with no room for its claim. It writes a line for each call: name, number, day, count, claims written and the par that account 1
 // has lent account 2 after it; then April's claim in cents, and whether both forms leave the same balances and claim buffers.
-ghost use mathlib.Core.Path.{_≡_};
-ghost use mathlib.Core.Bool.{true};
 ghost use Prim.Native.Nat.{_≤_, _<_};
 use book::Book;
 use book::Done;
-use libc::STDOUT_FILENO;
+use call_files::print;
+use call_files::print_end;
+use call_files::print_field;
 use records::ReadClaim;
 use records::Transfer;
 
 // The word of the balances for the par of security 0 that account 1 has lent account 2.
 const LENT: usize = 18;
-
-// Writes text.
-fn print(text: &[u8]) {
-    io::write_all(STDOUT_FILENO, text);
-}
-
-// Writes a space and a number.
-fn print_field(n: u64) {
-    print(b" ");
-    io::print_decimal(STDOUT_FILENO, n);
-}
 
 // The days Monday to Friday of a month that begins on a weekday, counted from Monday.
 fn month_word(weekday: u32, length: u32) -> u32
@@ -65,23 +54,6 @@ fn fill_tables(tables: &mut [u32; 1824]) {
     tables[12] = 5000000;
 }
 
-// Whether two lists of balances are the same.
-fn same_balances(a: &[u64], b: &[u64]) -> bool
-    ensures { λ r. ⌜ (r ≡ true → now (a .entry) ≡ now (b .entry)) ⌝ }
-{
-    if a.len() != b.len() {
-        return false;
-    }
-    let mut i: usize = 0;
-    while i < a.len() {
-        if a[i] != b[i] {
-            return false;
-        }
-        i += 1;
-    }
-    true
-}
-
 // Writes a call's line and answers the book after it.
 fn told(name: &[u8], done: Done, balances: &[u64; 4096]) -> Book {
     print(name);
@@ -90,7 +62,7 @@ fn told(name: &[u8], done: Done, balances: &[u64; 4096]) -> Book {
     print_field(done.book.count as u64);
     print_field(done.claims as u64);
     print_field(balances[LENT]);
-    print(b"\n");
+    print_end();
     done.book
 }
 
@@ -174,7 +146,7 @@ fn print_cents(claims: &[u8]) {
         ReadClaim::Is(claim) => {
             print(b"cents");
             print_field(claim.interest.0);
-            print(b"\n");
+            print_end();
         }
         ReadClaim::Refused => print(b"no claim\n"),
     }
@@ -259,7 +231,7 @@ fn print_same(
     claims: &[u8; 70],
     own_claims: &[u8; 70],
 ) {
-    if !same_balances(balances, own_balances) {
+    if !call_files::same_balances(balances, own_balances) {
         print(b"other balances\n");
         return;
     }
