@@ -9,7 +9,7 @@ use lib.ListN.{length, take, drop, set, length-set}
 use lib.Seq.{take-suc-set, take-length, drop-drop}
 use Rattle.lists.specs.Numbers.{numberOf}
 use Rattle.lists.specs.Fields.{part}
-use Rattle.book_file.specs.BookFile.{wordsIn}
+use Rattle.book_file.specs.BookFile.{wordsIn, calendarIn, tablesIn}
 
 pub record Filling (bytes : List ℕ) (at : ℕ) (words₀ words : List ℕ) (i : ℕ) : Type 0 where
   pub small : i ≤ length words₀
@@ -42,3 +42,13 @@ fill-end {bytes} {words₀} {words} {at} {i} h k =
     let z : length words₀ - i ≡ 0 = omega (arith, k .sized) in
     let l : i ≡ length words = omega (arith, k .sized, k .small) in
     sym (k .rest ∙ rw z (append-nil (take i words) ∙ ap (λ (n : ℕ). take n words) l ∙ take-length words))
+
+-- ---- the parts of book.dat
+
+pub calendar-words : (bytes words : List ℕ) (n : ℕ) → n ≡ 480 → words ≡ wordsIn n (drop 0 bytes) → words ≡ calendarIn bytes
+unfolding calendarIn
+calendar-words bytes words n e q = q ∙ ap (λ (k : ℕ). wordsIn k bytes) e
+
+pub table-words : (bytes words : List ℕ) (n : ℕ) → n ≡ 1824 → words ≡ wordsIn n (drop 1920 bytes) → words ≡ tablesIn bytes
+unfolding tablesIn
+table-words bytes words n e q = q ∙ ap (λ (k : ℕ). wordsIn k (drop 1920 bytes)) e

@@ -249,7 +249,6 @@ fn main() {
     }
     let mut calendar = [0u32; 480];
     let mut tables = [0u32; 1824];
-    book_file::take_words(&bytes, 0, &mut calendar);
-    book_file::take_words(&bytes, 1920, &mut tables);
-    open_and_run(&calendar, &tables, records::u32_at(&bytes, 9216));
+    let day = book_file::load(&bytes, &mut calendar, &mut tables);
+    open_and_run(&calendar, &tables, day);
 }

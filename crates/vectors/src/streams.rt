@@ -193,9 +193,8 @@ fn try_stream(
     }
     let mut calendar = [0u32; 480];
     let mut tables = [0u32; 1824];
-    book_file::take_words(book, 0, &mut calendar);
-    book_file::take_words(book, 1920, &mut tables);
-    let done = opens::open(&calendar, &tables, balances, records::u32_at(book, 9216));
+    let day = book_file::load(book, &mut calendar, &mut tables);
+    let done = opens::open(&calendar, &tables, balances, day);
     if done.number != 0 {
         return is_answer(done.number, expected);
     }
