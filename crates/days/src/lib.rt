@@ -2,9 +2,9 @@
 // a number that is no date is not open, and no search finds a day from it.
 ghost use mathlib.Core.Path.{_≡_};
 ghost use mathlib.Core.Bool.{true};
-ghost use Prim.Native.Nat.{_+_, _-_, _≤_, _<_};
+ghost use Prim.Native.Nat.{_+_, _*_, _-_, _≤_, _<_};
 ghost use lib.ListN.{length, drop};
-ghost use Rattle.days.specs.Days.{isDate, monthLength, checked, wordOf, dateOf, badCalendar, isOpen, lowestFrom, seekFrom, openAt, openAfter, openFrom, lastOpen, asDay};
+ghost use Rattle.days.specs.Days.{isDate, monthLength, checked, wordOf, dateOf, badFrom, badCalendar, isOpen, lowestFrom, seekFrom, openAt, openAfter, openFrom, lastOpen, asDay};
 
 // A date: the number yyyymmdd.
 pub struct Date(pub u32);
@@ -83,19 +83,35 @@ fn date_of(m: usize, d: u32) -> u32
     (2000 + n / 12) * 10000 + (n % 12 + 1) * 100 + (d + 1)
 }
 
+// Whether one of a year's twelve words has a bit for a day that its month lacks. Year 0 is 2000.
+fn bad_year(y: u32, words: &[u32]) -> bool
+    requires { ⌜ (y < 40) × (length (now words) ≡ 12) ⌝ }
+    ensures { λ r. ⌜ r ≡ badFrom (12 * y) (now (words .entry)) ⌝ }
+{
+    let mut m: u32 = 0;
+    while m < 12 {
+        let n = month_length(2000 + y, m + 1);
+        let w = words[m as usize];
+        if w >> n != 0 {
+            return true;
+        }
+        m += 1;
+    }
+    false
+}
+
 // Whether a calendar has a bit for a day that its month lacks: number 2.
 pub fn bad_calendar(calendar: &[u32]) -> bool
     requires { ⌜ length (now calendar) ≡ 480 ⌝ }
     ensures { λ r. ⌜ r ≡ badCalendar (now (calendar .entry)) ⌝ }
 {
-    let mut m: u32 = 0;
-    while m < 480 {
-        let n = month_length(2000 + m / 12, m % 12 + 1);
-        let w = calendar[m as usize];
-        if w >> n != 0 {
+    let mut y: u32 = 0;
+    while y < 40 {
+        let a = 12 * (y as usize);
+        if bad_year(y, &calendar[a..a + 12]) {
             return true;
         }
-        m += 1;
+        y += 1;
     }
     false
 }

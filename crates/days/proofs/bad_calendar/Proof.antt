@@ -1,64 +1,58 @@
--- The loop keeps that the words from m on decide; each word is below its month's power exactly when no bit is left of it.
-use Prim.Native.Nat.{_+_, _-_, _/_, _%_}
-use Rattle.days.specs.Days.{lengthOf}
-use Rattle.days.proofs.Lengths.{word-length-le}
-use Rattle.days.proofs.Months.{Judging, judge-start, judge-bad, judge-next, judge-end}
+-- The loop keeps that the words from year y on decide.
+use mathlib.Core.Path.{sym, _∙_}
+use Prim.Native.Nat.{_-_}
+use Rattle.days.proofs.Months.{Yearly, year-start, year-bad, year-next, year-end}
 use borrow.Author.Needs.{needs}
-use native.Mathlib.Omega.{arith}
 use Rattle.days.proofs.bad_calendar.Statement.{statement}
 use Rattle.days.proofs.bad_calendar.Tie as tie
 
 abbrev Inv-loop : tie.InvT-loop
-Inv-loop calendar m₀ m = Judging calendar m
+Inv-loop calendar y₀ y = Yearly calendar y
 
 abbrev μ-loop : tie.MeasureT-loop
-μ-loop calendar m₀ m = 480 - m
+μ-loop calendar y₀ y = 40 - y
 
 loop-holds : tie.Need-loop-holds Inv-loop μ-loop
-loop-holds c = judge-start _
+loop-holds c = year-start _
 
-add-month-length : tie.Need-add-month-length Inv-loop μ-loop
-add-month-length c = search needs
+cast-a : tie.Need-cast-a Inv-loop μ-loop
+cast-a c = search needs
 
-add-month-length-2 : tie.Need-add-month-length-2 Inv-loop μ-loop
-add-month-length-2 c = search needs
+mul-a : tie.Need-mul-a Inv-loop μ-loop
+mul-a c = search needs
 
-month-length-requires : tie.Need-month-length-requires Inv-loop μ-loop
-month-length-requires c κs = search needs
+add-bad-year : tie.Need-add-bad-year Inv-loop μ-loop
+add-bad-year c = search needs
 
-cast-w : tie.Need-cast-w Inv-loop μ-loop
-cast-w c = search needs
+mul-bad-year : tie.Need-mul-bad-year Inv-loop μ-loop
+mul-bad-year c = search needs
 
-mul-w : tie.Need-mul-w Inv-loop μ-loop
-mul-w c = search needs
+sub-bad-year : tie.Need-sub-bad-year Inv-loop μ-loop
+sub-bad-year c = search needs
 
-shared-slice-read-w : tie.Need-shared-slice-read-w Inv-loop μ-loop
-shared-slice-read-w c = search needs
+part-bad-year-start : tie.Need-part-bad-year-start Inv-loop μ-loop
+part-bad-year-start c = search needs
 
-shr-if1 : tie.Need-shr-if1 Inv-loop μ-loop
-unfolding lengthOf
-shr-if1 c =
-    let l = word-length-le (c .before .before .before .loop .m) (search needs) in
-    omega (arith, c .before .month-length .ensures)
+part-bad-year-end : tie.Need-part-bad-year-end Inv-loop μ-loop
+part-bad-year-end c = search needs
+
+bad-year-requires : tie.Need-bad-year-requires Inv-loop μ-loop
+bad-year-requires c κs = search needs
 
 returns : tie.Need-returns Inv-loop μ-loop
-unfolding lengthOf
-returns c =
-    judge-bad (c .before .before .before .before .loop .inv) (search needs) (search needs) (c .before .before .month-length .ensures) (c .if1 .taken)
+returns c = year-bad (c .before .before .before .before .loop .inv) (search needs) (c .before .before .before .before .before .before .pre) (sym (c .if1 .taken) ∙ c .before .bad-year .ensures)
 
-add-m : tie.Need-add-m Inv-loop μ-loop
-add-m c = search needs
+add-y : tie.Need-add-y Inv-loop μ-loop
+add-y c = search needs
 
 loop-less : tie.Need-loop-less Inv-loop μ-loop
 loop-less c = search needs
 
 loop-again : tie.Need-loop-again Inv-loop μ-loop
-unfolding lengthOf
-loop-again c =
-    judge-next (c .before .before .before .before .loop .inv) (search needs) (search needs) (c .before .before .month-length .ensures) (c .if1 .left)
+loop-again c = year-next (c .before .before .before .before .loop .inv) (search needs) (c .before .before .before .before .before .before .pre) (sym (c .if1 .left) ∙ c .before .bad-year .ensures)
 
 returns-2 : tie.Need-returns-2 Inv-loop μ-loop
-returns-2 c = judge-end (c .before .loop .inv) (c .loop-test .left) (search needs)
+returns-2 c = year-end (c .before .loop .inv) (c .loop-test .left) (c .before .before .before .pre)
 
 pub bad-calendar-spec : {M : Type 1} → statement M
 bad-calendar-spec =
@@ -67,15 +61,16 @@ bad-calendar-spec =
     Inv-loop
     μ-loop
     loop-holds
-    add-month-length
-    add-month-length-2
-    month-length-requires
-    cast-w
-    mul-w
-    shared-slice-read-w
-    shr-if1
+    cast-a
+    mul-a
+    add-bad-year
+    mul-bad-year
+    sub-bad-year
+    part-bad-year-start
+    part-bad-year-end
+    bad-year-requires
     returns
-    add-m
+    add-y
     loop-less
     loop-again
     returns-2)
