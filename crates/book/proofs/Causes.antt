@@ -9,7 +9,7 @@ use lib.Dec.{eqb}
 use lib.ListN.{length, getD, drop, drop-of-length-le}
 use lib.Seq.{drop-cons}
 use borrow.Author.Tests.{eqb-true, eq-eqb, ne-eqb, le-leb, lt-leb, not-false}
-use Rattle.lists.specs.Tests.{or-false-left}
+use Rattle.lists.specs.Tests.{or-false-left, or-false-right}
 use Rattle.lists.specs.First.{firstOf, numbered, appliesAt, cleared, hit, skip, none}
 use Rattle.days.specs.Days.{badCalendar, isOpen, openAfter}
 use Rattle.securities.specs.Securities.{goodTables}
@@ -56,6 +56,15 @@ module _ (calendar tables balances : List ℕ) where
   calendar-length e =
       eqb-true (length calendar) 480
       (not-false _ (or-false-left _ _ (or-false-left _ (not (eqb (length balances) 4096)) (cleared 1 (tableCauses calendar tables balances) numbered-tables e))))
+
+  -- and of the balances'
+  pub balance-length : firstOf (tableCauses calendar tables balances) ≡ 0 → length balances ≡ 4096
+  unfolding tableCauses wrongLength appliesAt
+  balance-length e =
+      eqb-true (length balances) 4096
+      (not-false _
+      (or-false-right (not (eqb (length calendar) 480) || not (eqb (length tables) 1824)) _
+      (cleared 1 (tableCauses calendar tables balances) numbered-tables e)))
 
   module _ (a : length calendar ≡ 480) (b : length tables ≡ 1824) (c : length balances ≡ 4096) where
     right-lengths : wrongLength calendar tables balances ≡ false

@@ -1,11 +1,16 @@
 // The book and its balances (document 01, sections The book and Loans), with the numbers 1 to 4, 7 and 8 of what can be refused.
 // Calendar, tables and balances are taken in any length where a function gives number 1.
 ghost use mathlib.Core.Path.{_≡_};
+ghost use mathlib.Core.Bool.{true};
 ghost use Prim.Native.Nat.{_<_};
-ghost use lib.ListN.{length, replicate};
+ghost use lib.Dec.{eqb};
+ghost use lib.ListN.{length, getD, replicate};
 ghost use Rattle.lists.specs.First.{firstOf};
+ghost use Rattle.lists.specs.Sums.{sum};
+ghost use Rattle.lists.specs.Tests.{below};
 ghost use Rattle.book.specs.Book.{word, position};
 ghost use Rattle.book.specs.Loans.{increasing, decreasing, changeOf, changed, loanCauses};
+ghost use Rattle.book.specs.Quick.{excessOf, selfWord};
 ghost use Rattle.book.specs.Soundness.{badDay, goodBalance, badBalances, tableCauses, bookCauses, openingCauses};
 use days::Day;
 use records::Transfer;
@@ -96,8 +101,8 @@ fn good_balance(w: usize, par: u64) -> bool
     w / 16 % 16 != w % 16
 }
 
-// Whether a balance is too large, or nonzero where an account would lend itself.
-fn bad_balances(balances: &[u64]) -> bool
+// Whether a balance is too large, or nonzero where an account would lend itself: the words one by one.
+fn judge_balances(balances: &[u64]) -> bool
     ensures { λ r. ⌜ r ≡ badBalances (now (balances .entry)) ⌝ }
 {
     let mut w: usize = 0;
@@ -108,6 +113,51 @@ fn bad_balances(balances: &[u64]) -> bool
         w += 1;
     }
     false
+}
+
+// What balances have above the largest, added up.
+fn excesses(balances: &[u64]) -> u64
+    requires { ⌜ length (now balances) ≡ 4096 ⌝ }
+    ensures { λ r. ⌜ r ≡ sum excessOf (now (balances .entry)) ⌝ }
+{
+    let mut total: u64 = 0;
+    let mut w: usize = 0;
+    while w < balances.len() {
+        let par = balances[w];
+        total += par / 17179869184 + (par % 17179869184 + 8179869183) / 17179869184;
+        w += 1;
+    }
+    total
+}
+
+// Whether no account has lent itself.
+fn is_apart(balances: &[u64]) -> bool
+    requires { ⌜ length (now balances) ≡ 4096 ⌝ }
+    ensures { λ r. ⌜ (r ≡ true → below (λ i. eqb (getD (now (balances .entry)) (selfWord i) 0) 0) 256 ≡ true) ⌝ }
+{
+    let mut i: usize = 0;
+    while i < 256 {
+        if balances[256 * (i / 16) + 17 * (i % 16)] != 0 {
+            return false;
+        }
+        i += 1;
+    }
+    true
+}
+
+// Whether a balance is too large, or nonzero where an account would lend itself. Only where a quick test finds something are the words
+// judged one by one.
+fn bad_balances(balances: &[u64]) -> bool
+    requires { ⌜ length (now balances) ≡ 4096 ⌝ }
+    ensures { λ r. ⌜ r ≡ badBalances (now (balances .entry)) ⌝ }
+{
+    if excesses(balances) != 0 {
+        return judge_balances(balances);
+    }
+    if is_apart(balances) {
+        return false;
+    }
+    judge_balances(balances)
 }
 
 // The first of the numbers 1 to 4 that a transfer or a close meets, 0 where it meets none.

@@ -1,58 +1,39 @@
--- `bad_balances` judges the words in order: the words from w on decide.
+-- Balances that pass the quick test are good; others are judged one by one.
 use mathlib.Core.Path.{sym, _∙_}
-use Prim.Native.Nat.{_-_}
-use borrow.Author.Tests.{not-true, not-false}
-use lib.ListN.{length}
-use Rattle.book.proofs.Causes.{Judging, judge-start, judge-bad, judge-next, judge-end}
+use Rattle.book.proofs.Quick.{quick-good}
 use borrow.Author.Needs.{needs}
 use Rattle.book.proofs.bad_balances.Statement.{statement}
 use Rattle.book.proofs.bad_balances.Tie as tie
 
-abbrev Inv-loop : tie.InvT-loop
-Inv-loop balances w₀ w = Judging balances w
+excesses-requires : tie.Need-excesses-requires
+excesses-requires c κs = search needs
 
-abbrev μ-loop : tie.MeasureT-loop
-μ-loop balances w₀ w = length balances - w
+judge-balances-requires : tie.Need-judge-balances-requires
+judge-balances-requires c κs = search needs
 
-loop-holds : tie.Need-loop-holds Inv-loop μ-loop
-loop-holds c = judge-start _
+returns : tie.Need-returns
+returns c = search needs
 
-mul-good-balance : tie.Need-mul-good-balance Inv-loop μ-loop
-mul-good-balance c = search needs
+is-apart-requires : tie.Need-is-apart-requires
+is-apart-requires c κs = search needs
 
-shared-slice-read-good-balance : tie.Need-shared-slice-read-good-balance Inv-loop μ-loop
-shared-slice-read-good-balance c = search needs
+returns-2 : tie.Need-returns-2
+returns-2 c = sym (quick-good _ (c .before .before .before .before .before .pre) (sym (c .before .before .before .excesses .ensures) ∙ c .before .before .if1 .left) (c .before .is-apart .ensures (c .if2 .taken)))
 
-good-balance-requires : tie.Need-good-balance-requires Inv-loop μ-loop
-good-balance-requires c κs = search needs
+judge-balances-requires-2 : tie.Need-judge-balances-requires-2
+judge-balances-requires-2 c κs = search needs
 
-returns : tie.Need-returns Inv-loop μ-loop
-returns c = judge-bad (c .before .before .before .loop-test .taken) (c .before .before .before .before .loop .inv) (sym (c .before .good-balance .ensures) ∙ not-true _ (c .if1 .taken))
-
-add-w : tie.Need-add-w Inv-loop μ-loop
-add-w c = search needs
-
-loop-less : tie.Need-loop-less Inv-loop μ-loop
-loop-less c = search needs
-
-loop-again : tie.Need-loop-again Inv-loop μ-loop
-loop-again c = judge-next (c .before .before .before .loop-test .taken) (c .before .before .before .before .loop .inv) (sym (c .before .good-balance .ensures) ∙ not-false _ (c .if1 .left))
-
-returns-2 : tie.Need-returns-2 Inv-loop μ-loop
-returns-2 c = judge-end (c .loop-test .left) (c .before .loop .inv)
+returns-3 : tie.Need-returns-3
+returns-3 c = search needs
 
 pub bad-balances-spec : {M : Type 1} → statement M
 bad-balances-spec =
     tie.close
     (tie.spec
-    Inv-loop
-    μ-loop
-    loop-holds
-    mul-good-balance
-    shared-slice-read-good-balance
-    good-balance-requires
+    excesses-requires
+    judge-balances-requires
     returns
-    add-w
-    loop-less
-    loop-again
-    returns-2)
+    is-apart-requires
+    returns-2
+    judge-balances-requires-2
+    returns-3)

@@ -2,7 +2,7 @@
 use mathlib.Core.Path.{sym, _∙_}
 use Rattle.lists.specs.First.{hit, skip, none, hit-group, skip-group}
 use Rattle.book.specs.Soundness.{badDay, bookCauses}
-use Rattle.book.proofs.Causes.{or-left, or-right, or-none, numbered-tables, calendar-length}
+use Rattle.book.proofs.Causes.{or-left, or-right, or-none, numbered-tables, calendar-length, balance-length}
 use borrow.Author.Needs.{needs}
 use Rattle.book.proofs.book_number.Statement.{statement}
 use Rattle.book.proofs.book_number.Tie as tie
@@ -22,7 +22,7 @@ unfolding bookCauses
 returns-2 c = skip-group _ _ (numbered-tables _ _ _) (c .before .before .before .table-number .ensures) (c .before .before .if1 .left) (hit 4 _ (or-left _ _ (sym (c .before .bad-day .ensures) ∙ c .if2 .taken)))
 
 bad-balances-requires : tie.Need-bad-balances-requires
-bad-balances-requires c κs = search needs
+bad-balances-requires c κs = balance-length _ _ _ (sym (c .before .before .before .table-number .ensures) ∙ c .before .before .if1 .left)
 
 returns-3 : tie.Need-returns-3
 unfolding bookCauses
