@@ -135,12 +135,12 @@ fn is_apart(balances: &[u64]) -> bool
     requires { ⌜ length (now balances) ≡ 4096 ⌝ }
     ensures { λ r. ⌜ (r ≡ true → below (λ i. eqb (getD (now (balances .entry)) (selfWord i) 0) 0) 256 ≡ true) ⌝ }
 {
-    let mut i: usize = 0;
-    while i < 256 {
-        if balances[256 * (i / 16) + 17 * (i % 16)] != 0 {
+    let mut n: usize = 0;
+    while n < 256 {
+        if balances[256 * (n / 16) + 17 * (n % 16)] != 0 {
             return false;
         }
-        i += 1;
+        n += 1;
     }
     true
 }
