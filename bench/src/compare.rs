@@ -1,0 +1,137 @@
+//! Compares the library with the Rust rules on random inputs and stops at the first difference.
+use crate::inputs::{self, World};
+use crate::random::Random;
+use crate::tracker;
+use bench::rules::{self, RECORD_ROOM};
+use std::collections::BTreeMap;
+use std::fmt::Debug;
+
+/// How often each kind of input got each number.
+type Tally = BTreeMap<(&'static str, u16), u64>;
+
+fn same<T: PartialEq + Debug>(what: &str, library: &T, rust: &T) -> Result<(), String> {
+    if library == rust {
+        return Ok(());
+    }
+    Err(format!("{what} differs\n  library: {library:?}\n  rust:    {rust:?}"))
+}
+
+/// Like `same`, but says only the first place where the parts differ.
+fn same_parts<T: PartialEq + Debug>(what: &str, library: &[T], rust: &[T]) -> Result<(), String> {
+    if library == rust {
+        return Ok(());
+    }
+    let at = library.iter().zip(rust).position(|(a, b)| a != b);
+    let at = at.unwrap_or(library.len().min(rust.len()));
+    Err(format!("{what} differs at {at}\n  library: {:?}\n  rust:    {:?}", library.get(at), rust.get(at)))
+}
+
+fn compare_open(random: &mut Random, tally: &mut Tally) -> Result<(), String> {
+    let world = inputs::world(random);
+    let (mut ours, mut theirs) = (world.balances.clone(), world.balances);
+    let day = world.book.day;
+    let library = tracker::open(&world.calendar, &world.tables, &mut ours, day);
+    let rust = rules::open(&world.calendar, &world.tables, &mut theirs, day);
+    *tally.entry(("open", library.number)).or_default() += 1;
+    same("the answer", &library, &rust)?;
+    same_parts("the balances", &ours, &theirs)
+}
+
+/// A call on the same book from both, again and again on what the last one left.
+fn compare_calls(random: &mut Random, tally: &mut Tally) -> Result<(), String> {
+    let world = inputs::world(random);
+    let mut book = world.book;
+    let (mut ours, mut theirs) = (world.balances.clone(), world.balances.clone());
+    for _ in 0..random.pick(&[1, 1, 3, 40]) {
+        let closing = random.one_in(3);
+        let message = inputs::message(random, book.day, closing);
+        let mut our_claims = inputs::buffer(random);
+        let mut their_claims = our_claims.clone();
+        let World { calendar, tables, .. } = &world;
+        let (name, library, rust) = if closing {
+            let library = tracker::close(calendar, tables, book, &mut ours, &message, &mut our_claims);
+            let rust = rules::close(calendar, tables, book, &mut theirs, &message, &mut their_claims);
+            ("close", library, rust)
+        } else {
+            let library = tracker::transfer(calendar, tables, book, &mut ours, &message, &mut our_claims);
+            let rust = rules::transfer(calendar, tables, book, &mut theirs, &message, &mut their_claims);
+            ("transfer", library, rust)
+        };
+        *tally.entry((name, library.number)).or_default() += 1;
+        for claim in our_claims.chunks_exact(35).take(library.claims) {
+            let name = if claim[4] == 1 { "fail claim, outcome" } else { "lending claim, outcome" };
+            *tally.entry((name, claim[5] as u16)).or_default() += 1;
+        }
+        same("the answer", &library, &rust)?;
+        same_parts("the balances", &ours, &theirs)?;
+        same_parts("the claim buffer", &our_claims, &their_claims)?;
+        book = library.book;
+    }
+    Ok(())
+}
+
+/// A stream handed over in runs that are cut at random places, into outputs of random lengths.
+fn compare_serve(random: &mut Random, tally: &mut Tally) -> Result<(), String> {
+    let world = inputs::world(random);
+    let stream = inputs::stream(random, world.book.day);
+    let mut book = world.book;
+    let (mut ours, mut theirs) = (world.balances.clone(), world.balances.clone());
+    let (mut from, mut to) = (0, 0);
+    let whole = random.one_in(3);
+    loop {
+        to = if whole { stream.len() } else { (to + random.below(600) as usize).min(stream.len()) };
+        let ended = to == stream.len() && random.one_in(2);
+        let length = match random.below(8) {
+            0 => random.below(100),
+            1 => RECORD_ROOM as u64 - 1,
+            2 => RECORD_ROOM as u64,
+            3 => RECORD_ROOM as u64 + random.below(400),
+            _ => 2 * RECORD_ROOM as u64,
+        };
+        let stamp = random.word() as u8;
+        let mut our_output = vec![stamp; length as usize];
+        let mut their_output = our_output.clone();
+        let World { calendar, tables, .. } = &world;
+        let input = &stream[from..to];
+        let library = tracker::serve(calendar, tables, book, &mut ours, input, ended, &mut our_output);
+        let rust = rules::serve(calendar, tables, book, &mut theirs, input, ended, &mut their_output);
+        *tally.entry(("serve", library.number)).or_default() += 1;
+        if library.over {
+            *tally.entry(("serve, over", 5)).or_default() += 1;
+        }
+        if library.written > 0 {
+            *tally.entry(("serve with output", 0)).or_default() += 1;
+        }
+        same("the answer", &library, &rust)?;
+        same_parts("the balances", &ours, &theirs)?;
+        same_parts("the output", &our_output, &their_output)?;
+        book = library.book;
+        from += library.consumed;
+        if library.over || library.number != 0 || ended || random.one_in(200) {
+            return Ok(());
+        }
+    }
+}
+
+/// Compares on so many inputs from a seed.
+pub fn run(seed: u64, count: u64) -> Result<(), String> {
+    let mut tally = Tally::new();
+    for case in 0..count {
+        // Each input has a seed of its own, so that one can be tried alone.
+        let seed = seed.wrapping_add(case);
+        let mut random = Random::new(seed);
+        random.word();
+        let compared = match random.below(8) {
+            0 => compare_open(&mut random, &mut tally),
+            1..6 => compare_calls(&mut random, &mut tally),
+            _ => compare_serve(&mut random, &mut tally),
+        };
+        compared.map_err(|difference| format!("seed {seed}: {difference}"))?;
+    }
+    println!("{count} inputs from seed {seed}, no difference in any answer, book, balance, claim buffer or output");
+    println!("how often each number was answered, and each outcome given:");
+    for ((name, number), times) in tally {
+        println!("  {name:22} {number:3} {times:9}");
+    }
+    Ok(())
+}

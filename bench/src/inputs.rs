@@ -1,0 +1,467 @@
+//! Inputs: calendars, tables, balances and messages, sound and damaged.
+use crate::random::Random;
+use bench::rules::{BALANCE_WORDS, Book, CALENDAR_WORDS, TABLE_WORDS};
+
+pub const MOST_LENT: u64 = 9_000_000_000;
+
+/// Everything that the calls are given beside messages.
+#[derive(Clone)]
+pub struct World {
+    pub calendar: Vec<u32>,
+    pub tables: Vec<u32>,
+    pub balances: Vec<u64>,
+    pub book: Book,
+}
+
+fn month_length(month: usize) -> u32 {
+    let lengths = [31, 28, 31, 30, 31, 30, 31, 31, 30, 31, 30, 31];
+    lengths[month % 12] + (month % 48 == 1) as u32
+}
+
+/// The date of a day, counted from 1 January 2000; days past the end count as the last.
+pub fn date(mut day: u64) -> u32 {
+    for month in 0..CALENDAR_WORDS {
+        let length = month_length(month) as u64;
+        if day < length {
+            let (year, month) = (2000 + month / 12, month % 12 + 1);
+            return (10000 * year + 100 * month + 1) as u32 + day as u32;
+        }
+        day -= length;
+    }
+    20391231
+}
+
+/// The days from 1 January 2000 to 31 December 2039.
+pub const DAYS: u64 = 14610;
+
+/// Monday to Friday.
+pub fn weekdays() -> Vec<u32> {
+    // 1 January 2000 is a Saturday.
+    let mut weekday = 5;
+    let mut words = Vec::new();
+    for month in 0..CALENDAR_WORDS {
+        let mut word = 0;
+        for bit in 0..month_length(month) {
+            word |= ((weekday < 5) as u32) << bit;
+            weekday = (weekday + 1) % 7;
+        }
+        words.push(word);
+    }
+    words
+}
+
+/// A calendar that keeps its rule: weekdays, any days, few days, or none.
+fn calendar(random: &mut Random) -> Vec<u32> {
+    if !random.one_in(3) {
+        return weekdays();
+    }
+    let shape = random.below(8);
+    let mut words: Vec<u32> = (0..CALENDAR_WORDS)
+        .map(|month| {
+            let days = u32::MAX >> (32 - month_length(month));
+            match shape {
+                0..4 => random.word() as u32 & days,
+                4..6 => random.word() as u32 & random.word() as u32 & random.word() as u32 & days,
+                6 if random.one_in(12) => 1 << random.below(month_length(month) as u64),
+                6 => 0,
+                _ => days,
+            }
+        })
+        .collect();
+    if random.one_in(4) {
+        let from = random.place(&words);
+        words[from..].fill(0);
+    }
+    words
+}
+
+fn open_dates(calendar: &[u32]) -> Vec<u32> {
+    let mut open = Vec::new();
+    for (month, &word) in calendar.iter().enumerate() {
+        for bit in (0..32).filter(|bit| word >> bit & 1 == 1) {
+            let (year, month) = (2000 + month / 12, month % 12 + 1);
+            open.push((10000 * year + 100 * month + bit + 1) as u32);
+        }
+    }
+    open
+}
+
+/// A day of the book, mostly open and in the middle of the years that the rows cover.
+fn day(random: &mut Random, open: &[u32]) -> u32 {
+    match random.below(40) {
+        _ if open.is_empty() => date(random.below(DAYS)),
+        0 => date(random.below(DAYS)),
+        1 => *open.last().unwrap(),
+        2 => open[open.len() - 1 - random.below(3.min(open.len() as u64)) as usize],
+        3 => open[0],
+        4..8 => random.pick(open),
+        _ => {
+            let middle: Vec<u32> = open.iter().copied().filter(|day| (20200101..20230101).contains(day)).collect();
+            if middle.is_empty() { random.pick(open) } else { random.pick(&middle) }
+        }
+    }
+}
+
+fn factor(random: &mut Random) -> u32 {
+    match random.below(8) {
+        0 => 0,
+        1 => 2_000_000_000,
+        2 => random.below(100) as u32,
+        3 => random.pick(&[4_999_999, 5_000_000, 5_000_001]),
+        _ => random.below(2_000_000_001) as u32,
+    }
+}
+
+fn mask(random: &mut Random) -> u32 {
+    match random.below(4) {
+        0 | 1 => 0,
+        2 => 1 << random.below(16),
+        _ => random.word() as u32 & 0xffff,
+    }
+}
+
+/// Rows that keep the rules where the calendar's last open day is late enough.
+fn rows(random: &mut Random, count: usize, words: &mut [u32], step: u64) {
+    let mut record = random.from(6900, 7400);
+    let mut beneficiary = record + random.below(5);
+    for row in words.chunks_mut(7).take(count) {
+        let payment = record.max(beneficiary) + random.below(40);
+        let last = random.one_in(6) as u32;
+        row.copy_from_slice(&[
+            date(record),
+            date(beneficiary),
+            date(payment),
+            factor(random),
+            factor(random),
+            last,
+            mask(random),
+        ]);
+        record += random.from(1, step);
+        beneficiary += random.from(1, step);
+    }
+}
+
+fn tables(random: &mut Random) -> Vec<u32> {
+    let mut words = vec![0; TABLE_WORDS];
+    let unused = random.pick(&[0, 0, 0, 1, 2, 2, 8, 16]);
+    for security in words.chunks_mut(114) {
+        if random.below(16) < unused {
+            continue;
+        }
+        security[0] = random.from(1, 4) as u32;
+        security[1] = random.from(1, 4) as u32;
+        let count = if random.one_in(2) { 16 } else { random.below(17) as usize };
+        let step = random.pick(&[1, 3, 30, 60, 90]);
+        rows(random, count, &mut security[2..], step);
+    }
+    words
+}
+
+fn balances(random: &mut Random) -> Vec<u64> {
+    let shape = random.below(5);
+    let few = random.from(2, 200);
+    let mut words: Vec<u64> = (0..BALANCE_WORDS)
+        .map(|_| match shape {
+            0 => 0,
+            1 if random.one_in(few) => random.below(MOST_LENT + 1),
+            1 => 0,
+            2 => random.below(MOST_LENT + 1),
+            3 => random.pick(&[0, 1, MOST_LENT, MOST_LENT - 1, 100_000_000]),
+            _ => random.below(200_000_000),
+        })
+        .collect();
+    for security in words.chunks_mut(256) {
+        security.iter_mut().step_by(17).for_each(|own| *own = 0);
+    }
+    words
+}
+
+/// Changes a length.
+fn cut<T: Clone + Default>(random: &mut Random, of: &mut Vec<T>) {
+    let length = match random.below(4) {
+        0 => 0,
+        1 => of.len() + random.from(1, 300) as usize,
+        2 => of.len().saturating_sub(1),
+        _ => random.below(of.len() as u64 + 1) as usize,
+    };
+    of.resize(length, T::default());
+}
+
+/// A word near the one given or near an end of a range.
+fn other(random: &mut Random, word: u32) -> u32 {
+    match random.below(10) {
+        0 => word.wrapping_add(1),
+        1 => word.wrapping_sub(1),
+        2 => word ^ 1 << random.below(32),
+        3 => 0,
+        4 => u32::MAX,
+        5 => random.pick(&[1, 2, 4, 5, 0xffff, 0x10000, 2_000_000_000, 2_000_000_001]),
+        6 => random.pick(&[20000101, 19991231, 20391231, 20400101, 20230229, 20240229, 20230431, 20231301, 20230100]),
+        7 => date(random.below(DAYS)),
+        8 => random.below(20400101) as u32,
+        _ => random.word() as u32,
+    }
+}
+
+fn damage_row(random: &mut Random, tables: &mut [u32]) {
+    let Some(row) = tables.chunks_mut(114).nth(random.below(16) as usize).and_then(|security| {
+        let at = 2 + 7 * random.below(16) as usize;
+        security.get_mut(at..at + 7)
+    }) else {
+        return;
+    };
+    if random.one_in(3) {
+        row.fill(0);
+    } else {
+        let at = random.place(row);
+        row[at] = other(random, row[at]);
+    }
+}
+
+/// Damages one thing, or lets a thing be that was not damaged enough to matter.
+fn damage(random: &mut Random, world: &mut World) {
+    match random.below(12) {
+        0 => cut(random, &mut world.calendar),
+        1 => cut(random, &mut world.tables),
+        2 => cut(random, &mut world.balances),
+        3 if !world.calendar.is_empty() => {
+            let at = random.place(&world.calendar);
+            world.calendar[at] ^= 1 << random.from(26, 31);
+        }
+        4 if !world.tables.is_empty() => {
+            let at = random.place(&world.tables);
+            world.tables[at] = other(random, world.tables[at]);
+        }
+        5 if !world.tables.is_empty() => {
+            let at = random.place(&world.tables) / 114 * 114 + random.below(2) as usize;
+            if let Some(word) = world.tables.get_mut(at) {
+                *word = other(random, *word);
+            }
+        }
+        6 | 7 => damage_row(random, &mut world.tables),
+        8 if !world.balances.is_empty() => {
+            let at = random.place(&world.balances);
+            world.balances[at] = random.pick(&[MOST_LENT, MOST_LENT + 1, u64::MAX, 1 << 63, 1 << 34, 0, 1]);
+        }
+        9 if !world.balances.is_empty() => {
+            let own = 256 * random.below(16) as usize + 17 * random.below(16) as usize;
+            if let Some(word) = world.balances.get_mut(own) {
+                *word = random.pick(&[0, 1, u64::MAX, 1 << 63]);
+            }
+        }
+        10 => world.book.day = other(random, world.book.day),
+        _ => world.book.count = random.pick(&[0, u32::MAX, u32::MAX - 1, 1]),
+    }
+}
+
+/// An open day beside a Record, Beneficiary or Payment Date of some row.
+fn day_by_row(random: &mut Random, open: &[u32], tables: &[u32]) -> Option<u32> {
+    let security = tables.chunks(114).nth(random.below(16) as usize)?;
+    let row = security[2..].chunks(7).nth(random.below(16) as usize)?;
+    let near = open.partition_point(|&day| day < row[random.below(3) as usize]);
+    let at = (near + random.below(5) as usize).checked_sub(2)?;
+    open.get(at).copied()
+}
+
+/// A calendar, tables, balances and a book; about one in four is damaged.
+pub fn world(random: &mut Random) -> World {
+    let calendar = calendar(random);
+    let tables = tables(random);
+    let open = open_dates(&calendar);
+    let by_row = if random.one_in(2) { day_by_row(random, &open, &tables) } else { None };
+    let day = by_row.unwrap_or_else(|| day(random, &open));
+    let count = match random.below(8) {
+        0 => u32::MAX - random.below(3) as u32,
+        1 => random.word() as u32,
+        _ => random.below(1000) as u32,
+    };
+    let mut world = World { calendar, tables, balances: balances(random), book: Book { day, count } };
+    if random.one_in(4) {
+        damage(random, &mut world);
+        if random.one_in(3) {
+            damage(random, &mut world);
+        }
+    }
+    world
+}
+
+const OPENER: &[u8] = b"{98A:CNTR/";
+
+/// A Contract Date, mostly not after the day.
+fn contract(random: &mut Random, day: u32) -> u32 {
+    match random.below(12) {
+        0 | 1 => day,
+        2 => day.wrapping_add(1),
+        3 => other(random, day),
+        4 => random.below(100_000_000) as u32,
+        5 => day.wrapping_sub(1),
+        _ => date(random.from(6800, 8400)),
+    }
+}
+
+/// The bytes of a tag, mostly well made.
+fn tag(random: &mut Random, day: u32) -> Vec<u8> {
+    let mut bytes = OPENER.to_vec();
+    match random.below(20) {
+        0 => bytes.extend(random.bytes(8)),
+        1 => bytes.extend(format!("{:07}", contract(random, day) / 10).bytes()),
+        2 => bytes.extend(format!("{:09}", contract(random, day)).bytes()),
+        3 => {
+            bytes.extend(format!("{:08}", contract(random, day)).bytes());
+            let at = OPENER.len() + random.below(8) as usize;
+            bytes[at] = random.pick(b"/:}{ ");
+        }
+        4 => {}
+        _ => bytes.extend(format!("{:08}", contract(random, day)).bytes()),
+    }
+    if !random.one_in(16) {
+        bytes.push(b'}');
+    }
+    if random.one_in(24) {
+        let at = random.place(&bytes);
+        bytes[at] = random.word() as u8;
+    }
+    bytes
+}
+
+/// Both lines of free text with one good tag in one of them.
+fn lines_with_tag(random: &mut Random, day: u32) -> Vec<u8> {
+    let mut text = vec![random.pick(b" }x0"); 128];
+    let date = if random.one_in(4) { day } else { date(random.from(6800, 8000)).min(day) };
+    let tag = format!("{{98A:CNTR/{date:08}}}");
+    let at = (64 * random.below(2) + random.from(0, 64 - tag.len() as u64)) as usize;
+    text[at..at + tag.len()].copy_from_slice(tag.as_bytes());
+    text
+}
+
+/// Both lines of free text: plain, with tags, with parts of tags, or of any bytes.
+fn lines(random: &mut Random, day: u32) -> Vec<u8> {
+    if random.one_in(2) && day <= 99_999_999 {
+        return lines_with_tag(random, day);
+    }
+    let mut text = match random.below(6) {
+        0 => random.bytes(128),
+        1 => vec![b'{'; 128],
+        2 => (0..128).map(|_| random.pick(b"{98A:CNTR/}0129")).collect(),
+        _ => vec![b' '; 128],
+    };
+    let tags = random.pick(&[0, 1, 1, 1, 1, 2, 3]);
+    for _ in 0..tags {
+        let tag = tag(random, day);
+        let room = 128 - tag.len() as u64;
+        // Some tags lie across both lines, some end with their line.
+        let at = match random.below(6) {
+            0 => random.from(64 - tag.len() as u64, 64),
+            1 => random.pick(&[0, 64 - tag.len() as u64, 64, room]),
+            2 => random.pick(&[54, 118, 53, 55]).min(room),
+            _ => random.below(room + 1),
+        } as usize;
+        text[at..at + tag.len()].copy_from_slice(&tag);
+    }
+    text
+}
+
+/// A transfer, mostly with fields in their ranges.
+pub fn transfer(random: &mut Random, day: u32) -> Vec<u8> {
+    let mut bytes = vec![139, 0, 1, 0];
+    let sender = random.below(16) as u8;
+    let mut fields = [
+        sender,
+        (sender + random.from(1, 15) as u8) % 16,
+        random.below(16) as u8,
+        random.below(2) as u8,
+        random.pick(&[0, 0, 0, 0, 0, 1, 2, 3, 4, 5, 6]),
+    ];
+    if !random.one_in(4) {
+        fields[3] = 0;
+    }
+    if random.one_in(16) {
+        let at = random.place(&fields);
+        fields[at] = random.pick(&[0, 1, 2, 6, 7, 15, 16, 128, 255, sender]);
+    }
+    bytes.extend(fields);
+    let par: u32 = match random.below(8) {
+        0 => random.pick(&[0, 1, 100_000_000, 100_000_001, u32::MAX, 2]),
+        1 => random.below(100) as u32,
+        _ => random.from(1, 100_000_000) as u32,
+    };
+    bytes.extend(par.to_le_bytes());
+    bytes.extend(lines(random, day));
+    bytes
+}
+
+/// Damages a message: its header, its length or any byte.
+fn damage_message(random: &mut Random, message: &mut Vec<u8>) {
+    match random.below(4) {
+        0 => {
+            let at = random.below(4) as usize;
+            message[at] = random.pick(&[0, 1, 2, 3, 4, 33, 139, 140, 255]);
+        }
+        1 => cut(random, message),
+        2 => {
+            let at = random.place(message);
+            message[at] = random.word() as u8;
+        }
+        _ => {
+            let more = random.below(200) as usize;
+            message.extend(random.bytes(more));
+        }
+    }
+}
+
+/// A message for a transfer or a close: mostly of its kind, some damaged, some of any bytes.
+pub fn message(random: &mut Random, day: u32, closing: bool) -> Vec<u8> {
+    let mut message = match random.below(24) {
+        0 => {
+            let length = random.below(300) as usize;
+            return random.bytes(length);
+        }
+        1 if closing => transfer(random, day),
+        1 => vec![2, 0, 2, 0],
+        _ if closing => vec![2, 0, 2, 0],
+        _ => transfer(random, day),
+    };
+    if random.one_in(12) {
+        damage_message(random, &mut message);
+    }
+    message
+}
+
+/// A claim buffer: of any length, often so small that claims do not fit, and filled with bytes that must stay.
+pub fn buffer(random: &mut Random) -> Vec<u8> {
+    let length = match random.below(8) {
+        0 => 0,
+        1 => random.below(36),
+        2 => 35 * random.below(8),
+        3 => random.below(300),
+        4 => random.below(20_000),
+        5 => 65536,
+        _ => 140_000,
+    };
+    let stamp = random.word() as u8;
+    (0..length).map(|at| stamp.wrapping_add(at as u8)).collect()
+}
+
+/// A stream of records; some end inside a record or hold one that is wrong.
+pub fn stream(random: &mut Random, day: u32) -> Vec<u8> {
+    let count = random.pick(&[0, 1, 2, 5, 20, 100, 400]);
+    let closes = random.pick(&[2, 10, 50]);
+    let wrong = random.pick(&[10, 100, 1000]);
+    let mut bytes = Vec::new();
+    for _ in 0..count {
+        if random.one_in(closes) {
+            bytes.extend([2, 0, 2, 0]);
+        } else {
+            bytes.extend(transfer(random, day));
+        }
+        if random.one_in(wrong) {
+            let length = random.below(10) as usize;
+            bytes.extend(random.bytes(length));
+        }
+    }
+    if random.one_in(3) && !bytes.is_empty() {
+        let end = bytes.len() - random.below(150.min(bytes.len() as u64)) as usize;
+        bytes.truncate(end);
+    }
+    bytes
+}

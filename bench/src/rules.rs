@@ -1,0 +1,53 @@
+//! The rules of document 01 in Rust: opening, transfer, close and a run of records.
+mod book;
+mod claims;
+mod days;
+mod records;
+mod serve;
+mod tables;
+mod tags;
+
+pub use book::{close, open, transfer};
+pub use records::answer;
+pub use serve::serve;
+
+/// Words of the calendar, one a month from January 2000.
+pub const CALENDAR_WORDS: usize = 480;
+
+/// Words of the tables, 114 for each of 16 securities.
+pub const TABLE_WORDS: usize = 1824;
+
+/// Words of the balances, 256 for each of 16 securities.
+pub const BALANCE_WORDS: usize = 4096;
+
+/// The claim buffer of a record in a run, and the room for it and the answer.
+pub const CLAIM_ROOM: usize = 65536;
+pub const RECORD_ROOM: usize = CLAIM_ROOM + 6;
+
+/// A book's day, yyyymmdd, and the number of its accepted transfers.
+#[repr(C)]
+#[derive(Clone, Copy, Debug, PartialEq, Eq)]
+pub struct Book {
+    pub day: u32,
+    pub count: u32,
+}
+
+/// What a call answers.
+#[repr(C)]
+#[derive(Clone, Copy, Debug, PartialEq, Eq)]
+pub struct Done {
+    pub number: u16,
+    pub book: Book,
+    pub claims: usize,
+}
+
+/// What a run of records answers.
+#[repr(C)]
+#[derive(Clone, Copy, Debug, PartialEq, Eq)]
+pub struct Served {
+    pub number: u16,
+    pub book: Book,
+    pub consumed: usize,
+    pub written: usize,
+    pub over: bool,
+}

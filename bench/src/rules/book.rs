@@ -1,0 +1,175 @@
+//! The book and its calls.
+use super::claims::{self, Fail};
+use super::days::{self, Calendar};
+use super::records::{self, Transfer};
+use super::tables::{self, Tables};
+use super::tags;
+use super::{BALANCE_WORDS, Book, Done};
+
+pub type Balances = [u64; BALANCE_WORDS];
+
+const MOST_LENT: u64 = 9_000_000_000;
+const MOST_PAR: u32 = 100_000_000;
+
+/// Calendar and tables that keep their rules.
+fn judge_tables<'a>(calendar: &'a [u32], tables: &'a [u32], balances: usize) -> Result<(&'a Calendar, &'a Tables), u16> {
+    let (Ok(calendar), Ok(tables)) = (calendar.try_into(), tables.try_into()) else {
+        return Err(1);
+    };
+    if balances != BALANCE_WORDS {
+        return Err(1);
+    }
+    if !days::is_sound(calendar) {
+        return Err(2);
+    }
+    if !tables::are_sound(tables, days::last_open(calendar)) {
+        return Err(3);
+    }
+    Ok((calendar, tables))
+}
+
+/// A book's day is open and an open day follows it.
+fn judge_day(calendar: &Calendar, day: u32) -> Result<(), u16> {
+    if !days::is_open(calendar, day) || days::open_after(calendar, day).is_none() {
+        return Err(4);
+    }
+    Ok(())
+}
+
+fn judge_balances(balances: &Balances) -> Result<(), u16> {
+    let too_large = balances.iter().fold(false, |found, &par| found | (par > MOST_LENT));
+    let own = balances.as_chunks::<256>().0.iter().flat_map(|loans| loans.iter().step_by(17));
+    let own = own.fold(0, |all, &par| all | par);
+    if too_large || own != 0 {
+        return Err(4);
+    }
+    Ok(())
+}
+
+/// A book with its balances on a calendar and tables, all of which keep their rules.
+pub struct Sound<'a> {
+    calendar: &'a Calendar,
+    tables: &'a Tables,
+    balances: &'a mut Balances,
+    pub book: Book,
+}
+
+impl<'a> Sound<'a> {
+    /// Judges numbers 1 to 4.
+    pub fn judge(calendar: &'a [u32], tables: &'a [u32], book: Book, balances: &'a mut [u64]) -> Result<Self, u16> {
+        let (calendar, tables) = judge_tables(calendar, tables, balances.len())?;
+        let balances: &mut Balances = balances.try_into().or(Err(1u16))?;
+        judge_day(calendar, book.day)?;
+        judge_balances(balances)?;
+        Ok(Sound { calendar, tables, balances, book })
+    }
+
+    fn judge_fields(&self, transfer: &Transfer) -> Result<(), u16> {
+        let securities = tables::securities(self.tables);
+        let used = securities.get(transfer.security as usize).is_some_and(tables::is_used);
+        if transfer.sender > 15
+            || transfer.receiver > 15
+            || !used
+            || transfer.class > 1
+            || transfer.code > 6
+            || !(1..=MOST_PAR).contains(&transfer.par)
+            || transfer.sender == transfer.receiver
+        {
+            return Err(6);
+        }
+        Ok(())
+    }
+
+    /// The word of the balances that a transfer changes and what it becomes.
+    fn loan(&self, transfer: &Transfer) -> Result<Option<(usize, u64)>, u16> {
+        let word = |lender, borrower| 256 * transfer.security as usize + 16 * lender as usize + borrower as usize;
+        let par = transfer.par as u64;
+        match transfer.code {
+            1 | 4 | 5 => {
+                let at = word(transfer.sender, transfer.receiver);
+                let after = self.balances[at] + par;
+                if after > MOST_LENT { Err(8) } else { Ok(Some((at, after))) }
+            }
+            2 | 3 | 6 => {
+                let at = word(transfer.receiver, transfer.sender);
+                let after = self.balances[at].checked_sub(par).ok_or(7u16)?;
+                Ok(Some((at, after)))
+            }
+            _ => Ok(None),
+        }
+    }
+
+    /// Works a transfer and says how many claims it gives.
+    pub fn transfer(&mut self, message: &[u8], claims: &mut [u8]) -> Result<usize, u16> {
+        let transfer = records::read_transfer(message).ok_or(5u16)?;
+        self.judge_fields(&transfer)?;
+        let contract = tags::contract_date(transfer.lines, self.book.day, transfer.class)?;
+        let number = self.book.count.checked_add(1).ok_or(11u16)?;
+        let loan = self.loan(&transfer)?;
+        let mut written = 0;
+        if let (0, Some(contract)) = (transfer.code, contract) {
+            let fail = Fail {
+                sender: transfer.sender,
+                receiver: transfer.receiver,
+                security: transfer.security,
+                transfer: number,
+                par: transfer.par,
+            };
+            written = claims::write_fails(self.calendar, self.tables, self.book.day, contract, &fail, claims)?;
+        }
+        if let Some((at, after)) = loan {
+            self.balances[at] = after;
+        }
+        self.book.count = number;
+        Ok(written)
+    }
+
+    /// Works a close and says how many claims it gives.
+    pub fn close(&mut self, message: &[u8], claims: &mut [u8]) -> Result<usize, u16> {
+        if !records::is_close(message) {
+            return Err(5);
+        }
+        let from = self.book.day;
+        let to = days::open_after(self.calendar, from).ok_or(4u16)?;
+        days::open_after(self.calendar, to).ok_or(9u16)?;
+        let written = claims::write_lending(self.calendar, self.tables, self.balances, from, to, claims)?;
+        self.book.day = to;
+        Ok(written)
+    }
+}
+
+fn refused(number: u16, book: Book) -> Done {
+    Done { number, book, claims: 0 }
+}
+
+/// Opens a book on a day.
+pub fn open(calendar: &[u32], tables: &[u32], balances: &mut [u64], day: u32) -> Done {
+    let judged = judge_tables(calendar, tables, balances.len()).and_then(|(calendar, _)| judge_day(calendar, day));
+    match judged {
+        Ok(()) => {
+            balances.fill(0);
+            Done { number: 0, book: Book { day, count: 0 }, claims: 0 }
+        }
+        Err(number) => refused(number, Book { day: days::FIRST, count: 0 }),
+    }
+}
+
+/// Works a transfer.
+pub fn transfer(calendar: &[u32], tables: &[u32], book: Book, balances: &mut [u64], message: &[u8], claims: &mut [u8]) -> Done {
+    let worked = Sound::judge(calendar, tables, book, balances)
+        .and_then(|mut sound| sound.transfer(message, claims).map(|claims| (sound.book, claims)));
+    match worked {
+        Ok((book, claims)) => Done { number: 0, book, claims },
+        Err(number) => refused(number, book),
+    }
+}
+
+/// Works a close.
+pub fn close(calendar: &[u32], tables: &[u32], book: Book, balances: &mut [u64], message: &[u8], claims: &mut [u8]) -> Done {
+    let worked = Sound::judge(calendar, tables, book, balances)
+        .and_then(|mut sound| sound.close(message, claims).map(|claims| (sound.book, claims)));
+    match worked {
+        Ok((book, claims)) => Done { number: 0, book, claims },
+        Err(number) => refused(number, book),
+    }
+}

@@ -1,0 +1,168 @@
+//! Amounts, outcomes and release of claims; the claims of a transfer and of a close.
+use super::days::{self, Calendar};
+use super::records::{CLAIM_BYTES, Claim};
+use super::tables::{self, Row, Security, Tables};
+
+const FAIL: u8 = 1;
+const LENDING: u8 = 3;
+
+/// Cents on a par by a factor, half a cent up.
+fn cents(par: u64, factor: u32) -> u64 {
+    (par * factor as u64 + 5_000_000) / 10_000_000
+}
+
+/// What a claim is about.
+struct Due<'a> {
+    claim_type: u8,
+    payer: u8,
+    payee: u8,
+    security: u8,
+    kind: u32,
+    row: u8,
+    words: &'a Row,
+    transfer: u32,
+    par: u64,
+}
+
+fn claim(calendar: &Calendar, day: u32, due: &Due) -> Claim {
+    let [_, _, payment, interest, principal, is_final, mask] = *due.words;
+    let interest = cents(due.par, interest);
+    let principal = cents(due.par, principal);
+    let outcome = if interest == 0 && principal == 0 {
+        1
+    } else if due.claim_type == LENDING && is_final == 1 {
+        2
+    } else if mask >> due.payer & 1 == 1 {
+        3
+    } else {
+        0
+    };
+    let (release, slot) = if outcome != 0 {
+        (0, 0)
+    } else if due.claim_type == FAIL && payment <= day {
+        (days::open_after(calendar, day).unwrap_or(0), 2)
+    } else {
+        let slot = if matches!(due.kind, 1 | 4) { 1 } else { 3 };
+        (days::open_on_or_after(calendar, payment).unwrap_or(0), slot)
+    };
+    Claim {
+        claim_type: due.claim_type,
+        outcome,
+        payer: due.payer,
+        payee: due.payee,
+        security: due.security,
+        row: due.row,
+        transfer: due.transfer,
+        interest,
+        principal,
+        release,
+        slot,
+    }
+}
+
+/// The most Beneficiary Dates that a fail goes back.
+fn most_rows(security: &Security) -> usize {
+    match (security[0], security[1]) {
+        (3 | 4, _) => 7,
+        (_, 1) => 6,
+        (_, 2) => 3,
+        (_, 3) => 2,
+        _ => 1,
+    }
+}
+
+/// The eligible rows of a failed transfer, with their places.
+pub fn eligible(security: &Security, day: u32, contract: u32) -> impl Iterator<Item = (usize, &Row)> {
+    let filled = tables::filled(security);
+    // Beneficiary Dates rise, so the rows up to the day stand first.
+    let reached = filled.partition_point(|row| row[1] <= day);
+    let first = reached.saturating_sub(most_rows(security));
+    filled[..reached].iter().enumerate().skip(first).filter(move |(_, row)| contract < row[1])
+}
+
+/// A failed transfer: its parties, security, number and par.
+pub struct Fail {
+    pub sender: u8,
+    pub receiver: u8,
+    pub security: u8,
+    pub transfer: u32,
+    pub par: u32,
+}
+
+/// The fail claims of a transfer, written from the buffer's start, or 10.
+pub fn write_fails(
+    calendar: &Calendar,
+    tables: &Tables,
+    day: u32,
+    contract: u32,
+    fail: &Fail,
+    buffer: &mut [u8],
+) -> Result<usize, u16> {
+    let security = &tables::securities(tables)[fail.security as usize];
+    let count = eligible(security, day, contract).count();
+    let room = buffer.get_mut(..CLAIM_BYTES * count).ok_or(10u16)?;
+    let (records, _) = room.as_chunks_mut::<CLAIM_BYTES>();
+    for (record, (row, words)) in records.iter_mut().zip(eligible(security, day, contract)) {
+        let due = Due {
+            claim_type: FAIL,
+            payer: fail.sender,
+            payee: fail.receiver,
+            security: fail.security,
+            kind: security[0],
+            row: row as u8,
+            words,
+            transfer: fail.transfer,
+            par: fail.par as u64,
+        };
+        *record = claim(calendar, day, &due).bytes();
+    }
+    Ok(count)
+}
+
+/// The rows whose Record Date a close crosses, with their places.
+fn crossed(security: &Security, from: u32, to: u32) -> impl Iterator<Item = (usize, &Row)> {
+    let rows = tables::filled(security).iter().enumerate();
+    rows.filter(move |(_, row)| from < row[0] && row[0] <= to)
+}
+
+/// The lending claims of a close from one day to another, written from the buffer's start, or 10.
+pub fn write_lending(
+    calendar: &Calendar,
+    tables: &Tables,
+    balances: &[u64],
+    from: u32,
+    to: u32,
+    buffer: &mut [u8],
+) -> Result<usize, u16> {
+    let loans = balances.as_chunks::<256>().0;
+    let books = || tables::securities(tables).iter().zip(loans);
+    let count = books()
+        .map(|(security, loans)| match crossed(security, from, to).count() {
+            0 => 0,
+            rows => rows * loans.iter().filter(|&&par| par > 0).count(),
+        })
+        .sum();
+    let room = buffer.get_mut(..CLAIM_BYTES * count).ok_or(10u16)?;
+    let mut records = room.as_chunks_mut::<CLAIM_BYTES>().0.iter_mut();
+    for (number, (security, loans)) in books().enumerate() {
+        for (row, words) in crossed(security, from, to) {
+            for (place, &par) in loans.iter().enumerate().filter(|(_, par)| **par > 0) {
+                let due = Due {
+                    claim_type: LENDING,
+                    payer: (place % 16) as u8,
+                    payee: (place / 16) as u8,
+                    security: number as u8,
+                    kind: security[0],
+                    row: row as u8,
+                    words,
+                    transfer: 0,
+                    par,
+                };
+                if let Some(record) = records.next() {
+                    *record = claim(calendar, from, &due).bytes();
+                }
+            }
+        }
+    }
+    Ok(count)
+}
