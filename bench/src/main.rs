@@ -2,6 +2,7 @@
 mod compare;
 mod inputs;
 mod random;
+mod timing;
 mod tracker;
 
 use std::process::ExitCode;
@@ -14,7 +15,8 @@ fn main() -> ExitCode {
     let arguments: Vec<String> = std::env::args().skip(1).collect();
     let done = match arguments.first().map(String::as_str) {
         Some("compare") => compare::run(number(arguments.get(1), 1), number(arguments.get(2), 100_000)),
-        _ => Err("bench compare [SEED] [COUNT]".into()),
+        Some("time") => timing::run(arguments.get(1).map(Into::into)),
+        _ => Err("bench compare [SEED] [COUNT]\nbench time [CLAIMRUN]".into()),
     };
     match done {
         Ok(()) => ExitCode::SUCCESS,
