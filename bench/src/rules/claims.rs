@@ -2,6 +2,7 @@
 use super::days::{self, Calendar};
 use super::records::{CLAIM_BYTES, Claim};
 use super::tables::{self, Row, Security, Tables};
+use std::ops::Range;
 
 const FAIL: u8 = 1;
 const LENDING: u8 = 3;
@@ -71,13 +72,13 @@ fn most_rows(security: &Security) -> usize {
     }
 }
 
-/// The eligible rows of a failed transfer, with their places.
-pub fn eligible(security: &Security, day: u32, contract: u32) -> impl Iterator<Item = (usize, &Row)> {
-    let filled = tables::filled(security);
-    // Beneficiary Dates rise, so the rows up to the day stand first.
-    let reached = filled.partition_point(|row| row[1] <= day);
-    let first = reached.saturating_sub(most_rows(security));
-    filled[..reached].iter().enumerate().skip(first).filter(move |(_, row)| contract < row[1])
+/// The eligible rows of a failed transfer: Beneficiary Dates rise, so they stand together.
+fn eligible(security: &Security, day: u32, contract: u32) -> Range<usize> {
+    let rows = tables::rows(security);
+    let reached = rows.iter().take_while(|row| row[1] != 0 && row[1] <= day).count();
+    let most = most_rows(security).min(reached);
+    let later = rows[..reached].iter().rev().take(most).take_while(|row| contract < row[1]).count();
+    reached - later..reached
 }
 
 /// A failed transfer: its parties, security, number and par.
@@ -99,10 +100,12 @@ pub fn write_fails(
     buffer: &mut [u8],
 ) -> Result<usize, u16> {
     let security = &tables::securities(tables)[fail.security as usize];
-    let count = eligible(security, day, contract).count();
+    let eligible = eligible(security, day, contract);
+    let count = eligible.len();
     let room = buffer.get_mut(..CLAIM_BYTES * count).ok_or(10u16)?;
     let (records, _) = room.as_chunks_mut::<CLAIM_BYTES>();
-    for (record, (row, words)) in records.iter_mut().zip(eligible(security, day, contract)) {
+    let rows = tables::rows(security).iter().enumerate();
+    for (record, (row, words)) in records.iter_mut().zip(rows.skip(eligible.start)) {
         let due = Due {
             claim_type: FAIL,
             payer: fail.sender,
@@ -119,9 +122,9 @@ pub fn write_fails(
     Ok(count)
 }
 
-/// The rows whose Record Date a close crosses, with their places.
+/// The rows whose Record Date a close crosses, with their places; an empty row's is 0.
 fn crossed(security: &Security, from: u32, to: u32) -> impl Iterator<Item = (usize, &Row)> {
-    let rows = tables::filled(security).iter().enumerate();
+    let rows = tables::rows(security).iter().enumerate();
     rows.filter(move |(_, row)| from < row[0] && row[0] <= to)
 }
 

@@ -22,7 +22,7 @@ pub fn rows(security: &Security) -> &[Row] {
 }
 
 /// The filled rows are those before the first empty one.
-pub fn filled(security: &Security) -> &[Row] {
+fn filled(security: &Security) -> &[Row] {
     let rows = rows(security);
     let count = rows.iter().position(|row| *row == EMPTY).unwrap_or(rows.len());
     &rows[..count]
