@@ -37,7 +37,7 @@ fn judge_day(calendar: &Calendar, day: u32) -> Result<(), u16> {
 }
 
 fn judge_balances(balances: &Balances) -> Result<(), u16> {
-    let too_large = balances.iter().fold(false, |found, &par| found | (par > MOST_LENT));
+    let too_large = balances.iter().any(|&par| par > MOST_LENT);
     let own = balances.as_chunks::<256>().0.iter().flat_map(|loans| loans.iter().step_by(17));
     let own = own.fold(0, |all, &par| all | par);
     if too_large || own != 0 {
