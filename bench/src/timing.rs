@@ -91,7 +91,7 @@ fn full_book(day: u32) -> World {
             ]);
         }
     }
-    let mut balances: Vec<u64> = (0..BALANCE_WORDS).map(|_| random.from(1, 8_000_000_000)).collect();
+    let mut balances: Vec<u64> = (0..BALANCE_WORDS).map(|_| random.from(1, inputs::MOST_LENT)).collect();
     for security in balances.chunks_mut(256) {
         security.iter_mut().step_by(17).for_each(|own| *own = 0);
     }
