@@ -203,24 +203,37 @@ fn other(random: &mut Random, word: u32) -> u32 {
     }
 }
 
-fn damage_row(random: &mut Random, tables: &mut [u32]) {
+/// Damages a row: empties it, changes a word, or brings a date to the edge of what another date or the calendar's last open day allows.
+fn damage_row(random: &mut Random, tables: &mut [u32], last_open: u32) {
     let Some(row) = tables.chunks_mut(114).nth(random.below(16) as usize).and_then(|security| {
         let at = 2 + 7 * random.below(16) as usize;
         security.get_mut(at..at + 7)
     }) else {
         return;
     };
-    if random.one_in(3) {
-        row.fill(0);
-    } else {
-        let at = random.place(row);
-        row[at] = other(random, row[at]);
+    let beside = random.pick(&[0, 1, u32::MAX]);
+    match random.below(6) {
+        0 | 1 => row.fill(0),
+        2 => row[2] = last_open.wrapping_add(beside),
+        3 => row[random.below(3) as usize] = row[random.below(3) as usize].wrapping_add(beside),
+        _ => {
+            let at = random.place(row);
+            row[at] = other(random, row[at]);
+        }
+    }
+}
+
+/// Brings a date of a row to the edge of what the row before it allows.
+fn damage_order(random: &mut Random, tables: &mut [u32]) {
+    let at = 114 * random.below(16) as usize + 2 + 7 * random.below(15) as usize + random.below(2) as usize;
+    if at + 7 < tables.len() {
+        tables[at + 7] = tables[at].wrapping_add(random.pick(&[0, 1, u32::MAX]));
     }
 }
 
 /// Damages one thing, or lets a thing be that was not damaged enough to matter.
 fn damage(random: &mut Random, world: &mut World) {
-    match random.below(12) {
+    match random.below(14) {
         0 => cut(random, &mut world.calendar),
         1 => cut(random, &mut world.tables),
         2 => cut(random, &mut world.balances),
@@ -238,7 +251,11 @@ fn damage(random: &mut Random, world: &mut World) {
                 *word = other(random, *word);
             }
         }
-        6 | 7 => damage_row(random, &mut world.tables),
+        6 | 7 | 12 => {
+            let last_open = open_dates(&world.calendar).last().copied().unwrap_or(0);
+            damage_row(random, &mut world.tables, last_open);
+        }
+        13 => damage_order(random, &mut world.tables),
         8 if !world.balances.is_empty() => {
             let at = random.place(&world.balances);
             world.balances[at] = random.pick(&[MOST_LENT, MOST_LENT + 1, u64::MAX, 1 << 63, 1 << 34, 0, 1]);
