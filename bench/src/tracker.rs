@@ -77,9 +77,21 @@ pub fn open(calendar: &[u32], tables: &[u32], balances: &mut [u64], day: u32) ->
     }
 }
 
-pub fn transfer(calendar: &[u32], tables: &[u32], book: Book, balances: &mut [u64], message: &[u8], claims: &mut [u8]) -> Done {
+/// What transfer and close by value are given and give.
+type Call =
+    unsafe extern "C" fn(*const u32, usize, *const u32, usize, Book, *mut u64, usize, *const u8, usize, *mut u8, usize) -> Done;
+
+fn call(
+    call: Call,
+    calendar: &[u32],
+    tables: &[u32],
+    book: Book,
+    balances: &mut [u64],
+    message: &[u8],
+    claims: &mut [u8],
+) -> Done {
     unsafe {
-        exports::claim_tracker_transfer(
+        call(
             calendar.as_ptr(),
             calendar.len(),
             tables.as_ptr(),
@@ -95,22 +107,12 @@ pub fn transfer(calendar: &[u32], tables: &[u32], book: Book, balances: &mut [u6
     }
 }
 
+pub fn transfer(calendar: &[u32], tables: &[u32], book: Book, balances: &mut [u64], message: &[u8], claims: &mut [u8]) -> Done {
+    call(exports::claim_tracker_transfer, calendar, tables, book, balances, message, claims)
+}
+
 pub fn close(calendar: &[u32], tables: &[u32], book: Book, balances: &mut [u64], message: &[u8], claims: &mut [u8]) -> Done {
-    unsafe {
-        exports::claim_tracker_close(
-            calendar.as_ptr(),
-            calendar.len(),
-            tables.as_ptr(),
-            tables.len(),
-            book,
-            balances.as_mut_ptr(),
-            balances.len(),
-            message.as_ptr(),
-            message.len(),
-            claims.as_mut_ptr(),
-            claims.len(),
-        )
-    }
+    call(exports::claim_tracker_close, calendar, tables, book, balances, message, claims)
 }
 
 pub fn serve(
