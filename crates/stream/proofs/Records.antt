@@ -2,7 +2,7 @@
 use mathlib.Core.Path.{_≡_, refl, sym, ap, _∙_, subst}
 use mathlib.Core.Bool.{Bool, true, false, cond}
 use mathlib.Core.List.{List, [], _∷_, _++_, append-assoc}
-use Prim.Native.Nat.{ℕ, zero, suc, min, _+_, _-_, _*_, _≤_}
+use Prim.Native.Nat.{ℕ, zero, suc, min, _+_, _-_, _*_, _≤_, _<_}
 use native.Mathlib.Nat.{zero-add}
 use native.Mathlib.Omega.{arith}
 use lib.ListN.{length, take, drop, replicate, length-take, length-append, length-drop, length-replicate, take-append-drop}
@@ -10,7 +10,7 @@ use lib.Seq.{take-at, drop-append-le}
 use Rattle.lists.specs.Tests.{cond-true, cond-false}
 use Rattle.lists.specs.Numbers.{bytesOf}
 use Rattle.lists.specs.Fields.{encode}
-use Rattle.lists.specs.Put.{put, put-start, put-put}
+use Rattle.lists.specs.Put.{put, put-start, put-put, put-length}
 use Rattle.records.specs.declared.Wrote.{Wrote}
 use Rattle.records.specs.MessageRecords.{closeKind, answerKind, size, recordBytes, reads, Writing, writing, wroteNumber}
 use Rattle.records.proofs.Answers.{stored-record}
@@ -125,8 +125,11 @@ module _ (calendar tables : List ℕ) (book : Book) (balances message l : List �
       }
 
   pub record Leaves (d : Done) (o after : List ℕ) : Type 0 where
-    pub fits : 35 * d .claims ≤ 65536
-    pub sized : length (o ++ drop 65536 l) ≡ length l
+    -- where the answer begins and ends are words
+    pub start : 35 * d .claims < 18446744073709551616
+    pub end : 35 * d .claims + 6 < 18446744073709551616
+    pub room-left : 35 * d .claims + 6 ≤ length (o ++ drop 65536 l)
+    pub sized : length (put (o ++ drop 65536 l) (35 * d .claims) (answerBytes (d .number))) ≡ length l
     pub same : _≡_ {A = Working}
         (record {
           book = d .book;
@@ -254,6 +257,25 @@ module _ (calendar tables : List ℕ) (book : Book) (balances message l : List �
             → put (o ++ drop 65536 l) (35 * d .claims) (answerBytes (d .number)) ≡ put l 0 (answerBytes (suc n))
         output-is z at number = rw (z, at, number, take-append-drop 65536 l) refl
 
+    -- what follows of the answer's place
+    placed : 35 * d .claims ≤ 65536 → length (o ++ drop 65536 l) ≡ length l
+        → _≡_ {A = Working}
+        (record {
+          book = d .book;
+          balances = after;
+          written = 35 * d .claims + 6;
+          output = put (o ++ drop 65536 l) (35 * d .claims) (answerBytes (d .number));
+        }) (working calendar tables book balances message l)
+        → Leaves d o after
+    placed f n e =
+        record {
+          start = omega (arith, f);
+          end = omega (arith, f);
+          room-left = omega (arith, f, n, room);
+          sized = put-length _ _ _ (omega (arith, f, n, room, answer-length (d .number))) ∙ n;
+          same = e;
+        }
+
     -- any call
     pub leaves : left d o after ≡ result calendar tables book balances (callWith part message) → Leaves d o after
     unfolding result working workingFor call
@@ -266,12 +288,12 @@ module _ (calendar tables : List ℕ) (book : Book) (balances message l : List �
         go zero z e =
             let f : left d o after ≡ resultFor 0 calendar tables book balances (withBuffer part call) =
             e ∙ ap (λ (n : ℕ). resultFor n calendar tables book balances (withBuffer part call)) (number-with calendar tables book balances part call room-of-call ∙ z) in
-            record { fits = room-kept z f; sized = whole-length o (buffer-kept z f); same = accepted-leaves z f ∙ ap workingFor (sym z) }
+            placed (room-kept z f) (whole-length o (buffer-kept z f)) (accepted-leaves z f ∙ ap workingFor (sym z))
         go (suc n) z e =
             let f : left d o after ≡ resultFor (suc n) calendar tables book balances (withBuffer part call) =
             e ∙ ap (λ (n : ℕ). resultFor n calendar tables book balances (withBuffer part call)) (number-with calendar tables book balances part call room-of-call ∙ z) in
             let k = refused-leaves n f in
-            record { fits = k .0; sized = whole-length o (ap length (k .2)); same = k .1 ∙ ap workingFor (sym z) }
+            placed (k .0) (whole-length o (ap length (k .2))) (k .1 ∙ ap workingFor (sym z))
 
 -- ---- the call that a record asks for
 

@@ -1,14 +1,23 @@
 -- The call leaves its claims in the first 64 KiB of the output, and the answer goes behind them.
 use mathlib.Core.Path.{ap, _∙_}
 use lib.ListN.{length}
-use Rattle.lists.specs.Put.{put-length}
 use Prim.Native.Nat.{_+_, _*_}
-use native.Mathlib.Omega.{arith}
 use Rattle.stream.specs.Serving.{worked}
-use Rattle.stream.proofs.Records.{leaves, answer-length}
+use Rattle.stream.proofs.Records.{Leaves, leaves}
 use borrow.Author.Needs.{needs}
 use Rattle.stream.proofs.work.Statement.{statement}
 use Rattle.stream.proofs.work.Tie as tie
+
+-- what the call leaves
+abbrev Kept : tie.After-call → Type 0
+Kept c =
+    let a = c .before .before .before .before .before .before .before .before .args in
+    Leaves (a .calendar .now) (a .tables .now) (a .book) (a .balances .now) (a .message .now) (a .output .now) (c .before .before .before .before .before .before .before .before .pre .1) (c .call .result) (c .call .last .1 .1 .1 .1 .1 .0) (c .call .last .1 .1 .1 .0)
+
+kept : (c : tie.After-call) → Kept c
+kept c =
+    let a = c .before .before .before .before .before .before .before .before .args in
+    leaves (a .calendar .now) (a .tables .now) (a .book) (a .balances .now) (a .message .now) (a .output .now) (c .before .before .before .before .before .before .before .before .pre .1) _ _ _ (c .call .ensures)
 
 sub-call : tie.Need-sub-call
 sub-call c = search needs
@@ -23,38 +32,26 @@ call-requires : tie.Need-call-requires
 call-requires c κs = search needs
 
 mul-n : tie.Need-mul-n
-mul-n c =
-    let a = c .before .before .before .before .before .before .before .before .before .before .before .before .before .before .args in
-    let k = leaves (a .calendar .now) (a .tables .now) (a .book) (a .balances .now) (a .message .now) (a .output .now) (c .before .before .before .before .before .before .before .before .before .before .before .before .before .before .pre .1) _ _ _ (c .before .before .before .before .before .before .call .ensures) in
-    record { fits = omega (arith, k .fits) }
+mul-n c = record { fits = kept (c .before .before .before .before .before .before) .start }
 
 put-answer-requires : tie.Need-put-answer-requires
-put-answer-requires c κs =
-    let a = c .before .before .before .before .before .before .before .before .before .before .before .before .before .before .before .args in
-    let k = leaves (a .calendar .now) (a .tables .now) (a .book) (a .balances .now) (a .message .now) (a .output .now) (c .before .before .before .before .before .before .before .before .before .before .before .before .before .before .before .pre .1) _ _ _ (c .before .before .before .before .before .before .before .call .ensures) in
-    omega (arith, k .fits, k .sized, c .before .before .before .before .before .before .before .before .before .before .before .before .before .before .before .pre .1)
+put-answer-requires c κs = kept (c .before .before .before .before .before .before .before) .room-left
 
 add-t13 : tie.Need-add-t13
-add-t13 c =
-    let a = c .before .before .before .before .before .before .before .before .before .before .before .before .before .before .before .before .before .before .args in
-    let k = leaves (a .calendar .now) (a .tables .now) (a .book) (a .balances .now) (a .message .now) (a .output .now) (c .before .before .before .before .before .before .before .before .before .before .before .before .before .before .before .before .before .before .pre .1) _ _ _ (c .before .before .before .before .before .before .before .before .before .before .call .ensures) in
-    record { fits = omega (arith, k .fits) }
+add-t13 c = record { fits = kept (c .before .before .before .before .before .before .before .before .before .before) .end }
 
 same-length : tie.Need-same-length
 same-length c = search needs
 
 same-length-2 : tie.Need-same-length-2
 same-length-2 c =
-    let a = c .before .before .before .before .before .before .before .before .before .before .before .before .before .before .before .before .before .before .args in
-    let k = leaves (a .calendar .now) (a .tables .now) (a .book) (a .balances .now) (a .message .now) (a .output .now) (c .before .before .before .before .before .before .before .before .before .before .before .before .before .before .before .before .before .before .pre .1) _ _ _ (c .before .before .before .before .before .before .before .before .before .before .call .ensures) in
-    ap length (c .before .before .put-answer .ensures) ∙ put-length _ _ _ (omega (arith, k .fits, k .sized, answer-length (c .before .before .before .before .before .before .before .before .before .before .call .result .number), c .before .before .before .before .before .before .before .before .before .before .before .before .before .before .before .before .before .before .pre .1)) ∙ k .sized
+    ap length (c .before .before .put-answer .ensures) ∙ kept (c .before .before .before .before .before .before .before .before .before .before) .sized
 
 returns : tie.Need-returns
 unfolding worked
 returns c =
-    let a = c .before .before .before .before .before .before .before .before .before .before .before .before .before .before .before .before .before .before .args in
-    let k = leaves (a .calendar .now) (a .tables .now) (a .book) (a .balances .now) (a .message .now) (a .output .now) (c .before .before .before .before .before .before .before .before .before .before .before .before .before .before .before .before .before .before .pre .1) _ _ _ (c .before .before .before .before .before .before .before .before .before .before .call .ensures) in
-    (λ i. record { book = c .before .before .before .before .before .before .before .before .before .before .call .result .book; balances = c .before .before .before .before .before .before .before .before .before .before .call .last .1 .1 .1 .0; written = 35 * c .before .before .before .before .before .before .before .before .before .before .call .result .claims + 6; output = c .before .before .put-answer .ensures i }) ∙ k .same
+    let d = c .before .before .before .before .before .before .before .before .before .before in
+    (λ i. record { book = d .call .result .book; balances = d .call .last .1 .1 .1 .0; written = 35 * d .call .result .claims + 6; output = c .before .before .put-answer .ensures i }) ∙ kept d .same
 
 pub work-spec : {M : Type 1} → statement M
 work-spec =
