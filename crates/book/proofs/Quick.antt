@@ -10,7 +10,7 @@ use lib.Dec.{eqb, leb}
 use lib.ListN.{length, drop, getD, drop-of-length-le}
 use lib.Seq.{drop-cons}
 use borrow.Author.Tests.{eqb-true, eqb-false, eq-eqb, ne-eqb, le-leb}
-use Rattle.lists.specs.Sums.{sum}
+use Rattle.lists.specs.Sums.{sum, sum-at}
 use Rattle.lists.specs.Tests.{and-both, below, below-at}
 use Rattle.book.specs.Book.{Position, position}
 use Rattle.book.specs.Soundness.{goodBalance, goodBalancesFrom, badBalances}
@@ -25,30 +25,6 @@ excess-none par e = omega (arith, e)
 pub excess-small : (par : ℕ) → par < 18446744073709551616 → excessOf par ≤ 1073741824
 unfolding excessOf
 excess-small par h = omega (arith, h)
-
--- ---- the sum
-
-pub record Adding (balances : List ℕ) (total w : ℕ) : Type 0 where
-  pub small : w ≤ length balances
-  pub rest : sum excessOf balances ≡ total + sum excessOf (drop w balances)
-  pub bound : total ≤ 1073741824 * w
-
-pub add-start : (balances : List ℕ) → Adding balances 0 0
-add-start balances = record { small = omega arith; rest = sym (zero-add _); bound = omega arith }
-
-module _ {balances : List ℕ} {total w : ℕ} (k : Adding balances total w) (h : w < length balances) (b : getD balances w 0 < 18446744073709551616) where
-  pub add-step : {t : ℕ} → t ≡ total + excessOf (getD balances w 0) → Adding balances t (w + 1)
-  unfolding sum
-  add-step {t} e =
-      record {
-        small = omega arith;
-        rest = k .rest ∙ rw (drop-cons balances w 0 h, e, add-one) (omega arith);
-        bound = omega (arith, e, k .bound, excess-small (getD balances w 0) b);
-      }
-
-pub add-end : {balances : List ℕ} {total w : ℕ} → Adding balances total w → length balances ≤ w → total ≡ sum excessOf balances
-unfolding sum
-add-end {balances} {total} {w} k h = sym (k .rest ∙ rw (drop-of-length-le balances {i = w} h) (add-zero total))
 
 -- ---- the diagonal
 
@@ -72,12 +48,6 @@ own-word : (k : ℕ) → k / 16 % 16 ≡ k % 16 → 256 * (k / 256) + 17 * (k % 
 own-word k q = omega (arith, q)
 
 -- ---- both together
-
-sum-at : (pars : List ℕ) → sum excessOf pars ≡ 0 → (k : ℕ) → k < length pars → excessOf (getD pars k 0) ≡ 0
-unfolding sum
-sum-at [] e k h = absurd (not-suc-le-zero h)
-sum-at (par ∷ pars) e zero h = omega (arith, e)
-sum-at (par ∷ pars) e (suc k) h = sum-at pars (omega (arith, e)) k (le-of-suc-le-suc h)
 
 good-of : (w : ℕ) (pars : List ℕ) → ((k : ℕ) → k < length pars → goodBalance (position (w + k)) (getD pars k 0) ≡ true) → goodBalancesFrom w pars ≡ true
 unfolding goodBalancesFrom
@@ -106,7 +76,7 @@ quick-good balances l e d = ap not (good-of 0 balances each)
 
     each : (k : ℕ) → k < length balances → goodBalance (position (0 + k)) (getD balances k 0) ≡ true
     each k h =
-        let s = excess-none (getD balances k 0) (sum-at balances e k h) in
+        let s = excess-none (getD balances k 0) (sum-at excessOf 0 balances e k h) in
         rw (zero-add k) (and-both (le-leb (getD balances k 0) 9000000000 s) (pick k (omega arith) (eqb (k / 16 % 16) (k % 16)) refl))
 
 -- what the loop over the diagonal keeps

@@ -2,9 +2,12 @@
 use mathlib.Core.Path.{_≡_, refl, sym, ap₂, _∙_}
 use mathlib.Core.Bool.{Bool, true, false, cond}
 use mathlib.Core.List.{List, [], _∷_, _++_, map}
-use Prim.Native.Nat.{ℕ, zero, suc, _+_}
-use native.Mathlib.Nat.{zero-add, add-zero}
+use Prim.Native.Nat.{ℕ, zero, suc, _+_, _*_, _≤_, _<_}
+use native.Mathlib.Nat.{zero-add, add-zero, mul-suc, not-suc-le-zero, le-of-suc-le-suc}
+use native.Mathlib.Numerals.{add-one}
 use native.Mathlib.Omega.{arith}
+use lib.ListN.{length, drop, getD, drop-of-length-le}
+use lib.Seq.{drop-cons}
 
 -- f added up over the elements
 unfoldable pub sum : {A : Type 0} → (A → ℕ) → List A → ℕ
@@ -57,3 +60,37 @@ cond-plus false m n = refl
 pub sum-cond : {A : Type 0} (b : Bool) (f : A → ℕ) (xs : List A) → sum (λ x. cond b (f x) 0) xs ≡ cond b (sum f xs) 0
 sum-cond true f xs = refl
 sum-cond false f xs = sum-zero (λ x. 0) xs (λ x. refl)
+
+-- ---- a sum of nothing
+
+pub sum-at : {A : Type 0} (f : A → ℕ) (d : A) (xs : List A) → sum f xs ≡ 0 → (k : ℕ) → k < length xs → f (getD xs k d) ≡ 0
+unfolding sum
+sum-at f d [] e k h = absurd (not-suc-le-zero h)
+sum-at f d (x ∷ xs) e zero h = omega (arith, e)
+sum-at f d (x ∷ xs) e (suc k) h = sum-at f d xs (omega (arith, e)) k (le-of-suc-le-suc h)
+
+-- ---- a sum by a loop without a way out, so that many elements can be taken at once
+
+-- The sum of f over the first w elements is total, and each of them adds at most b.
+pub record Adding {A : Type 0} (f : A → ℕ) (b : ℕ) (xs : List A) (total w : ℕ) : Type 0 where
+  pub small : w ≤ length xs
+  pub rest : sum f xs ≡ total + sum f (drop w xs)
+  pub bound : total ≤ b * w
+
+module _ {A : Type 0} (f : A → ℕ) (b : ℕ) where
+  pub add-start : (xs : List A) → Adding f b xs 0 0
+  add-start xs = record { small = omega arith; rest = sym (zero-add _); bound = omega arith }
+
+  pub add-step : {xs : List A} {total w : ℕ} (d : A) → Adding f b xs total w → w < length xs → f (getD xs w d) ≤ b
+      → {t : ℕ} → t ≡ total + f (getD xs w d) → Adding f b xs t (w + 1)
+  unfolding sum
+  add-step {xs} {total} {w} d k h m {t} e =
+      record {
+        small = omega arith;
+        rest = k .rest ∙ rw (drop-cons xs w d h, e, add-one) (omega arith);
+        bound = rw (add-one w, mul-suc) (omega (arith, e, k .bound, m));
+      }
+
+  pub add-end : {xs : List A} {total w : ℕ} → Adding f b xs total w → length xs ≤ w → total ≡ sum f xs
+  unfolding sum
+  add-end {xs} {total} {w} k h = sym (k .rest ∙ rw (drop-of-length-le xs {i = w} h) (add-zero total))

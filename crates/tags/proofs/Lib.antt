@@ -6,3 +6,4 @@ pub mod Answers
 pub mod Tags
 pub mod Causes
 pub mod Rows
+pub mod Quick

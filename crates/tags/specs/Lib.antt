@@ -1,1 +1,2 @@
 pub mod ContractDateTag
+pub mod Quick

@@ -4,6 +4,8 @@ ghost use mathlib.Core.Path.{_≡_};
 ghost use Prim.Native.Nat.{_+_, _≤_};
 ghost use lib.ListN.{length, getD};
 ghost use Rattle.lists.specs.First.{firstOf};
+ghost use Rattle.lists.specs.Sums.{sum};
+ghost use Rattle.tags.specs.Quick.{braceOf};
 ghost use Rattle.tags.specs.ContractDateTag.{openers, endFrom, tagHolding, tagAt, tagOf, editCauses};
 use days::Checked;
 use days::Date;
@@ -50,6 +52,41 @@ fn scan(line: &[u8]) -> Found
         count += 1;
     }
     Found { count, first }
+}
+
+// What a byte adds to the count of {.
+fn brace(byte: u8) -> u8
+    ensures { λ r. ⌜ r ≡ braceOf byte ⌝ }
+{
+    if byte == b'{' {
+        return 1;
+    }
+    0
+}
+
+// How many bytes of a line are {, counted without a way out of the loop, so that many can be taken at once.
+fn braces(line: &[u8]) -> u8
+    requires { ⌜ length (now line) ≡ 64 ⌝ }
+    ensures { λ r. ⌜ r ≡ sum braceOf (now (line .entry)) ⌝ }
+{
+    let mut n: u8 = 0;
+    let mut i: usize = 0;
+    while i < 64 {
+        n += brace(line[i]);
+        i += 1;
+    }
+    n
+}
+
+// The openers of a line: only one that has a { is searched.
+fn openers_in(line: &[u8]) -> Found
+    requires { ⌜ length (now line) ≡ 64 ⌝ }
+    ensures { λ r. ⌜ (r .count ≡ length (openers (now (line .entry)))) × (r .first ≡ getD (openers (now (line .entry))) 0 0) × (r .first ≤ 54) × (r .count ≤ 55) ⌝ }
+{
+    if braces(line) == 0 {
+        return Found { count: 0, first: 0 };
+    }
+    scan(line)
 }
 
 // The place of the first } from a place on, the line's length where there is none.
@@ -113,8 +150,8 @@ pub fn tag_of(first: &[u8], second: &[u8]) -> Tag
     requires { ⌜ (length (now first) ≡ 64) × (length (now second) ≡ 64) ⌝ }
     ensures { λ r. ⌜ r ≡ tagOf (now (first .entry)) (now (second .entry)) ⌝ }
 {
-    let a = scan(first);
-    let b = scan(second);
+    let a = openers_in(first);
+    let b = openers_in(second);
     let count = a.count + b.count;
     if count == 0 {
         return Tag::Absent;

@@ -3,20 +3,21 @@ use mathlib.Core.Path.{refl}
 use Prim.Native.Nat.{_-_}
 use lib.ListN.{length}
 use Rattle.book.specs.Quick.{excessOf}
-use Rattle.book.proofs.Quick.{Adding, add-start, add-step, add-end, excess-small}
+use Rattle.lists.specs.Sums.{Adding, add-start, add-step, add-end}
+use Rattle.book.proofs.Quick.{excess-small}
 use borrow.Author.Needs.{needs}
 use native.Mathlib.Omega.{arith}
 use Rattle.book.proofs.excesses.Statement.{statement}
 use Rattle.book.proofs.excesses.Tie as tie
 
 abbrev Inv-loop : tie.InvT-loop
-Inv-loop balances total₀ w₀ total w = Adding balances total w
+Inv-loop balances total₀ w₀ total w = Adding excessOf 1073741824 balances total w
 
 abbrev μ-loop : tie.MeasureT-loop
 μ-loop balances total₀ w₀ total w = length balances - w
 
 loop-holds : tie.Need-loop-holds Inv-loop μ-loop
-loop-holds c = add-start _
+loop-holds c = add-start excessOf 1073741824 _
 
 mul-par : tie.Need-mul-par Inv-loop μ-loop
 mul-par c = search needs
@@ -42,10 +43,10 @@ loop-less c = search needs
 
 loop-again : tie.Need-loop-again Inv-loop μ-loop
 unfolding excessOf
-loop-again c = add-step (c .before .before .loop .inv) (c .before .loop-test .taken) (c .shared-slice-known .given (c .before .before .loop .w) .fits) refl
+loop-again c = add-step excessOf 1073741824 0 (c .before .before .loop .inv) (c .before .loop-test .taken) (excess-small _ (c .shared-slice-known .given (c .before .before .loop .w) .fits)) refl
 
 returns : tie.Need-returns Inv-loop μ-loop
-returns c = add-end (c .before .loop .inv) (c .loop-test .left)
+returns c = add-end excessOf 1073741824 (c .before .loop .inv) (c .loop-test .left)
 
 pub excesses-spec : {M : Type 1} → statement M
 excesses-spec =

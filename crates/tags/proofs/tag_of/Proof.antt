@@ -6,20 +6,20 @@ use borrow.Author.Needs.{needs}
 use Rattle.tags.proofs.tag_of.Statement.{statement}
 use Rattle.tags.proofs.tag_of.Tie as tie
 
-scan-requires : tie.Need-scan-requires
-scan-requires c κs = search needs
+openers-in-requires : tie.Need-openers-in-requires
+openers-in-requires c κs = search needs
 
-scan-requires-2 : tie.Need-scan-requires-2
-scan-requires-2 c κs = search needs
+openers-in-requires-2 : tie.Need-openers-in-requires-2
+openers-in-requires-2 c κs = search needs
 
 add-count : tie.Need-add-count
 add-count c = search needs
 
 returns : tie.Need-returns
-returns c = of-none _ _ (c .before .before .before .before .scan .ensures .0) (c .before .before .before .scan2 .ensures .0) (c .if1 .taken)
+returns c = of-none _ _ (c .before .before .before .before .openers-in .ensures .0) (c .before .before .before .openers-in2 .ensures .0) (c .if1 .taken)
 
 returns-2 : tie.Need-returns-2
-returns-2 c = of-several _ _ (c .before .before .before .before .before .scan .ensures .0) (c .before .before .before .before .scan2 .ensures .0) (c .if2 .taken)
+returns-2 c = of-several _ _ (c .before .before .before .before .before .openers-in .ensures .0) (c .before .before .before .before .openers-in2 .ensures .0) (c .if2 .taken)
 
 tag-at-requires : tie.Need-tag-at-requires
 tag-at-requires c κs = search needs
@@ -27,7 +27,7 @@ tag-at-requires c κs = search needs
 returns-3 : tie.Need-returns-3
 returns-3 c =
     let s = c .before .before .before .before .before .before .before in
-    c .tag-at .ensures ∙ ap (tagAt _) (s .before .scan .ensures .1) ∙ of-first _ _ (s .before .scan .ensures .0) (s .scan2 .ensures .0) (search needs) (c .before .if3 .taken)
+    c .tag-at .ensures ∙ ap (tagAt _) (s .before .openers-in .ensures .1) ∙ of-first _ _ (s .before .openers-in .ensures .0) (s .openers-in2 .ensures .0) (search needs) (c .before .if3 .taken)
 
 tag-at-requires-2 : tie.Need-tag-at-requires-2
 tag-at-requires-2 c κs = search needs
@@ -35,14 +35,14 @@ tag-at-requires-2 c κs = search needs
 returns-4 : tie.Need-returns-4
 returns-4 c =
     let s = c .before .before .before .before .before .before .before in
-    c .tag-at2 .ensures ∙ ap (tagAt _) (s .scan2 .ensures .1) ∙ of-second _ _ (s .before .scan .ensures .0) (s .scan2 .ensures .0) (search needs) (c .before .if3 .left)
+    c .tag-at2 .ensures ∙ ap (tagAt _) (s .openers-in2 .ensures .1) ∙ of-second _ _ (s .before .openers-in .ensures .0) (s .openers-in2 .ensures .0) (search needs) (c .before .if3 .left)
 
 pub tag-of-spec : {M : Type 1} → statement M
 tag-of-spec =
     tie.close
     (tie.spec
-    scan-requires
-    scan-requires-2
+    openers-in-requires
+    openers-in-requires-2
     add-count
     returns
     returns-2
