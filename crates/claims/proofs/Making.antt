@@ -13,15 +13,10 @@ use Rattle.records.specs.declared.Wrote.{Wrote}
 use Rattle.records.specs.MessageRecords.{claimKind, claimValues, size, Writing, writing, wroteNumber}
 use Rattle.records.proofs.Answers.{stored-record}
 use Rattle.securities.specs.Securities.{securityOf, typeOf, rowOf}
+use Rattle.securities.proofs.Checks.{type-word}
 use Rattle.claims.specs.Amounts.{centsOn, amount, outcomeOf, releaseOf, slotOf, claimOn}
 use Rattle.claims.specs.Written.{claimBytes}
 use Rattle.claims.specs.Passes.{claim-length}
-
--- the first word of a security is its type
-pub type-word : (tables : List ℕ) (s : ℕ) → getD tables (114 * s) 0 ≡ typeOf (securityOf tables s)
-unfolding typeOf securityOf
-type-word tables s =
-    sym (getD-take 114 (drop (114 * s) tables) 0 0 (omega arith) ∙ getD-drop (114 * s) tables 0 0 ∙ ap (λ (k : ℕ). getD tables k 0) (add-zero (114 * s)))
 
 -- ---- the fields
 

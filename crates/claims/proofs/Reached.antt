@@ -26,7 +26,6 @@ use Rattle.tags.specs.ContractDateTag.{tagged, contractDate}
 use Rattle.days.specs.declared.Date.{Date}
 use Rattle.claims.specs.Amounts.{failType, claimOn}
 use Rattle.claims.specs.Fails.{maximumNumbers, maximumFor, eligibleIn, eligible, Due, due, fails, dues, transferParties, transferClaims}
-use Rattle.claims.proofs.Making.{type-word}
 use Rattle.claims.specs.Reached.{rowAt, leading, isReached, reachedRows, failClaim, Failing}
 
 -- ---- a row in its place
@@ -72,10 +71,6 @@ pub beneficiary-word : (tables : List ℕ) (s i : ℕ) → getD tables (114 * s 
 unfolding rowAt rowOf
 beneficiary-word tables s i =
     sym (getD-take 7 (drop (114 * s + 2 + 7 * i) tables) 1 0 (omega arith) ∙ getD-drop (114 * s + 2 + 7 * i) tables 1 0)
-
-pub frequency-word : (tables : List ℕ) (s : ℕ) → getD tables (114 * s + 1) 0 ≡ frequencyOf (securityOf tables s)
-unfolding frequencyOf securityOf
-frequency-word tables s = sym (getD-take 114 (drop (114 * s) tables) 1 0 (omega arith) ∙ getD-drop (114 * s) tables 1 0)
 
 -- ---- unused securities
 
@@ -123,9 +118,9 @@ module _ (calendar tables : List ℕ) (s : ℕ) (t : goodTables calendar tables 
       go true e = unfold rowsOf in good-empty (lastOpen calendar) 0 0 _ (zeros-empty 16 0 (drop 2 words) (all-drop _ 2 words e))
       go false e = search (and-left, and-right, e) depth 8
 
-  pub small-frequency : getD tables (114 * s + 1) 0 ≤ 4
+  pub small-frequency : frequencyOf (securityOf tables s) ≤ 4
   unfolding goodSecurity
-  small-frequency = rw (frequency-word tables s) (go (eqb (typeOf words) 0) good-security)
+  small-frequency = go (eqb (typeOf words) 0) good-security
     where
       words : List ℕ
       words = securityOf tables s
@@ -367,18 +362,16 @@ module _ (calendar tables : List ℕ) (day number : ℕ) (t : Transfer) where
 
     -- the claims of a failed transfer: one row after the other, from the first of the last ones on
     pub fail-each : {tag : Tag} {date : Date} {n m k : ℕ} → tag ≡ On date → t .code ≡ 0 → n ≡ reachedRows tables (t .security) day
-        → m ≡ maximumFor maximumNumbers (getD tables (114 * t .security) 0) (getD tables (114 * t .security + 1) 0) → k ≡ n - m
+        → m ≡ maximumFor maximumNumbers (typeOf (securityOf tables (t .security))) (frequencyOf (securityOf tables (t .security))) → k ≡ n - m
         → transferClaims calendar tables day number t tag
         ≡ each (n - k) (λ j. failClaim calendar tables day number t (date .0) (rowAt tables (t .security) (k + j)))
     fail-each {tag} {date} {n} {m} {k} g z e o q =
         let here = rowAt tables (t .security) 0 in
         let long : n - k ≤ length (drop k rows) = omega (arith, length-drop k rows, length-rows, few-reached) in
-        let most : m ≡ maximumFor maximumNumbers (typeOf (securityOf tables (t .security))) (frequencyOf (securityOf tables (t .security)))
-        = o ∙ ap₂ (maximumFor maximumNumbers) (type-word tables (t .security)) (frequency-word tables (t .security)) in
         ap (transferClaims calendar tables day number t) g
         ∙ fail-claims date z
         ∙ ap (λ (l : List Row). map (claimOn calendar tables day number (transferParties t) (t .par) failType) (select (λ row. ltb (date .0) (row .beneficiaryDate)) l))
-        (last-reached _ n k e (q ∙ ap (λ (x : ℕ). n - x) most))
+        (last-reached _ n k e (q ∙ ap (λ (x : ℕ). n - x) o))
         ∙ fail-select date (take (n - k) (drop k rows))
         ∙ each-of-take (failClaim calendar tables day number t (date .0)) (drop k rows) here (n - k) long
         ∙ each-agree _ _ (n - k) (λ j h.

@@ -2,16 +2,22 @@
 // maximum number, and of these each with a Beneficiary Date after the Contract Date. Tables keep their rules, so filled rows come
 // first and Beneficiary Dates rise. A pass with write false counts the claims, one with write true stores them too.
 ghost use mathlib.Core.Path.{_≡_};
-ghost use mathlib.Core.Bool.{true};
 ghost use Prim.Native.Nat.{_+_, _-_, _≤_, _<_};
 ghost use lib.ListN.{length};
-ghost use Rattle.lists.specs.Tabulate.{each};
-ghost use Rattle.securities.specs.Securities.{goodTables};
-ghost use Rattle.claims.specs.Fails.{maximumNumbers, maximumFor, transferClaims};
+ghost use Rattle.securities.specs.Securities.{securityOf, frequencyOf};
+ghost use Rattle.claims.specs.Fails.{maximumNumbers, maximumFor};
 ghost use Rattle.claims.specs.Passes.{Free, Passed};
 ghost use Rattle.claims.specs.Reached.{rowAt, reachedRows, failClaim, Failing};
+ghost use Rattle.fails.specs.Recent.{noRows, recentRows, recentClaims};
 use records::Transfer;
 use tags::Tag;
+
+// The rows on which a transfer claims: its Contract Date, the first row and how many there are.
+pub struct Recent {
+    pub contract: u32,
+    pub first: u8,
+    pub count: u8,
+}
 
 // The published maximum numbers of Beneficiary Dates: MBS, then monthly, quarterly, semiannual, annual.
 const MAXIMUM_NUMBERS: [u8; 5] = [7, 6, 3, 2, 1];
@@ -56,6 +62,42 @@ fn first_of_last(n: u8, maximum: u8) -> u8
     n - maximum
 }
 
+// No rows: the transfer is not failed.
+fn no_rows() -> Recent
+    ensures { λ r. ⌜ r ≡ noRows ⌝ }
+{
+    Recent {
+        contract: 0,
+        first: 0,
+        count: 0,
+    }
+}
+
+// The rows on which a transfer claims, found once for both passes.
+pub fn recent_rows(tables: &[u32], day: u32, t: Transfer, tag: Tag) -> Recent
+    requires { ⌜ (length (now tables) ≡ 1824) × (t .security < 16) × (frequencyOf (securityOf (now tables) (t .security)) ≤ 4) ⌝ }
+    ensures { λ r. ⌜ r ≡ recentRows (now (tables .entry)) day t tag ⌝ }
+{
+    if t.code != 0 {
+        return no_rows();
+    }
+    let Tag::On(date) = tag else {
+        return no_rows();
+    };
+    let s = t.security as usize;
+    let maximum = maximum_for(
+        securities::security_type(tables, s),
+        securities::frequency(tables, s),
+    );
+    let reached = reached_rows(tables, t.security, day);
+    let first = first_of_last(reached, maximum);
+    Recent {
+        contract: date.0,
+        first,
+        count: reached - first,
+    }
+}
+
 // The claim on one row, counted or stored at the record place n; the next record place.
 fn pass_row(
     write: bool,
@@ -97,8 +139,8 @@ fn pass_row(
     n + 1
 }
 
-// The claims on count rows from the first on, from the buffer's start.
-fn pass_rows(
+// The claims on the rows, counted, or stored from the buffer's start; how many there are.
+pub fn transfer_claims(
     write: bool,
     buffer: &mut [u8],
     calendar: &[u32],
@@ -106,13 +148,14 @@ fn pass_rows(
     day: u32,
     number: u32,
     t: Transfer,
-    contract: u32,
-    first: u8,
-    count: u8,
+    rows: Recent,
 ) -> usize
-    requires { ⌜ Failing (now calendar) (now tables) t (first + count) × Free write (now buffer) 0 (each count (λ j. failClaim (now calendar) (now tables) day number t contract (rowAt (now tables) (t .security) (first + j)))) ⌝ }
-    ensures { λ r. ⌜ Passed write (now (buffer .entry)) (now (buffer .exit)) 0 r (each count (λ j. failClaim (now (calendar .entry)) (now (tables .entry)) day number t contract (rowAt (now (tables .entry)) (t .security) (first + j)))) ⌝ }
+    requires { ⌜ Failing (now calendar) (now tables) t (rows .first + rows .count) × Free write (now buffer) 0 (recentClaims (now calendar) (now tables) day number t rows) ⌝ }
+    ensures { λ r. ⌜ Passed write (now (buffer .entry)) (now (buffer .exit)) 0 r (recentClaims (now (calendar .entry)) (now (tables .entry)) day number t rows) ⌝ }
 {
+    let contract = rows.contract;
+    let first = rows.first;
+    let count = rows.count;
     let mut n: usize = 0;
     let mut j: u8 = 0;
     while j < count {
@@ -131,41 +174,4 @@ fn pass_rows(
         j += 1;
     }
     n
-}
-
-// The claims of a transfer, counted, or stored from the buffer's start; how many there are.
-pub fn transfer_claims(
-    write: bool,
-    buffer: &mut [u8],
-    calendar: &[u32],
-    tables: &[u32],
-    day: u32,
-    number: u32,
-    t: Transfer,
-    tag: Tag,
-) -> usize
-    requires { ⌜ (length (now calendar) ≡ 480) × (length (now tables) ≡ 1824) × (goodTables (now calendar) (now tables) ≡ true) × (t .security < 16) × (t .sender < 16) × Free write (now buffer) 0 (transferClaims (now calendar) (now tables) day number t tag) ⌝ }
-    ensures { λ r. ⌜ Passed write (now (buffer .entry)) (now (buffer .exit)) 0 r (transferClaims (now (calendar .entry)) (now (tables .entry)) day number t tag) ⌝ }
-{
-    if t.code != 0 {
-        return 0;
-    }
-    let Tag::On(date) = tag else {
-        return 0;
-    };
-    let at = 114 * (t.security as usize);
-    let reached = reached_rows(tables, t.security, day);
-    let first = first_of_last(reached, maximum_for(tables[at], tables[at + 1]));
-    pass_rows(
-        write,
-        buffer,
-        calendar,
-        tables,
-        day,
-        number,
-        t,
-        date.0,
-        first,
-        reached - first,
-    )
 }

@@ -93,12 +93,13 @@ fn transfer_read(
     }
     let day = book.day;
     let count = book.count + 1;
-    let n = fails::transfer_claims(false, claims, calendar, tables, day, count, t, tag);
+    let rows = fails::recent_rows(tables, day, t, tag);
+    let n = fails::transfer_claims(false, claims, calendar, tables, day, count, t, rows);
     if claims.len() < 35 * n {
         return book::refused(10, book);
     }
     book::post(balances, t);
-    let m = fails::transfer_claims(true, claims, calendar, tables, day, count, t, tag);
+    let m = fails::transfer_claims(true, claims, calendar, tables, day, count, t, rows);
     Done {
         number: 0,
         book: Book { day, count },

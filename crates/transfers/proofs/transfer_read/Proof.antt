@@ -1,12 +1,17 @@
 -- Each refusal is the first cause that applies; an accepted transfer is counted, posted, and its claims are stored.
-use mathlib.Core.Path.{_≡_, refl, sym, ap, _∙_}
-use Prim.Native.Nat.{ℕ, _+_}
+use mathlib.Core.Path.{_≡_, refl, sym, ap, _∙_, subst, subst⁻¹}
+use mathlib.Core.List.{List}
+use Prim.Native.Nat.{ℕ, _+_, _≤_}
 use lib.ListN.{length}
+use Rattle.records.specs.declared.Claim.{Claim}
 use Rattle.records.specs.declared.Transfer.{Transfer}
 use Rattle.records.proofs.Readings.{transfer-long, first-line-length, second-line-length}
 use Rattle.claims.specs.Passes.{free-count, free-store, passed-written}
 use Rattle.claims.specs.Written.{written}
-use Rattle.claims.proofs.Reached.{few-transfer}
+use Rattle.claims.specs.Reached.{Failing}
+use Rattle.claims.proofs.Reached.{few-transfer, small-frequency}
+use Rattle.fails.specs.Recent.{recentClaims}
+use Rattle.fails.proofs.Claimed.{Recently, recently}
 use Rattle.book.specs.Loans.{changeOf, changed}
 use Rattle.book.proofs.Judged as judged
 use Rattle.history.specs.Calls.{transfer, bufferOf, claimsOf}
@@ -51,25 +56,47 @@ returns c =
 add-count : tie.Need-add-count
 add-count c = let f = passed _ _ _ _ _ (sym (c .before .before .own-number .ensures) ∙ c .before .if1 .left) .count in search needs
 
-transfer-claims-requires : tie.Need-transfer-claims-requires
-transfer-claims-requires c κs =
+recent-rows-requires : tie.Need-recent-rows-requires
+recent-rows-requires c κs =
+    let k = judged.sound-number _ _ _ _ (c .before .before .before .before .before .before .before .before .before .before .before .before .pre .0) .tables-sound in
+    let f = passed _ _ _ _ _ (sym (c .before .before .own-number .ensures) ∙ c .before .if1 .left) .fields in
+    (k .table-words, f .security, small-frequency _ _ _ (k .table-rules) (f .security))
+
+-- the claims on the rows are the transfer's
+abbrev Claims : tie.After-recent-rows → Type 0
+Claims c =
+    let a = c .before .before .before .before .before .before .before .before .before .before .before .before .before .args in
+    Recently (a .calendar .now) (a .tables .now) (a .book .day) (a .book .count + 1) (a .t) (c .before .before .before .before .before .tag-of .result) (c .recent-rows .result)
+
+claims-on : (c : tie.After-recent-rows) → Claims c
+claims-on c =
     let s = c .before .before .before .before .before .before .before .before .before .before .before .before .before in
     let a = s .args in
     let k = judged.sound-number _ _ _ _ (s .pre .0) .tables-sound in
-    let f = passed _ _ _ _ _ (sym (c .before .before .before .own-number .ensures) ∙ c .before .before .if1 .left) .fields in (
-      k .calendar-words,
-      k .table-words,
-      k .table-rules,
-      f .security,
-      f .sender,
-      free-count _ _ (omega (arith, few-transfer (a .calendar .now) (a .tables .now) (a .book .day) (a .book .count + 1) (a .t) (c .before .before .before .before .before .tag-of .result))),
-    )
+    let f = passed _ _ _ _ _ (sym (c .before .before .before .own-number .ensures) ∙ c .before .before .if1 .left) .fields in
+    subst⁻¹ (Recently (a .calendar .now) (a .tables .now) (a .book .day) (a .book .count + 1) (a .t) (c .before .before .before .before .before .tag-of .result)) (c .recent-rows .ensures)
+    (recently (a .calendar .now) (a .tables .now) (a .book .day) (a .book .count + 1) (a .t) (k .table-rules) (f .security) (c .before .before .before .before .before .tag-of .result))
+
+-- they are few
+few-on : (c : tie.After-recent-rows)
+    → length (recentClaims (c .before .before .before .before .before .before .before .before .before .before .before .before .before .args .calendar .now) (c .before .before .before .before .before .before .before .before .before .before .before .before .before .args .tables .now) (c .before .before .before .before .before .before .before .before .before .before .before .before .before .args .book .day) (c .before .before .before .before .before .before .before .before .before .before .before .before .before .args .book .count + 1) (c .before .before .before .before .before .before .before .before .before .before .before .before .before .args .t) (c .recent-rows .result)) ≤ 16
+few-on c =
+    let a = c .before .before .before .before .before .before .before .before .before .before .before .before .before .args in
+    subst (λ (l : List Claim). length l ≤ 16) (claims-on c .claims) (few-transfer (a .calendar .now) (a .tables .now) (a .book .day) (a .book .count + 1) (a .t) (c .before .before .before .before .before .tag-of .result))
+
+-- what they ask is there
+asks-on : (c : tie.After-recent-rows)
+    → Failing (c .before .before .before .before .before .before .before .before .before .before .before .before .before .args .calendar .now) (c .before .before .before .before .before .before .before .before .before .before .before .before .before .args .tables .now) (c .before .before .before .before .before .before .before .before .before .before .before .before .before .args .t) (c .recent-rows .result .first + c .recent-rows .result .count)
+asks-on c =
+    let k = judged.sound-number _ _ _ _ (c .before .before .before .before .before .before .before .before .before .before .before .before .before .pre .0) .tables-sound in
+    let f = passed _ _ _ _ _ (sym (c .before .before .before .own-number .ensures) ∙ c .before .before .if1 .left) .fields in
+    claims-on c .asks (k .calendar-words) (k .table-words) (f .sender)
+
+transfer-claims-requires : tie.Need-transfer-claims-requires
+transfer-claims-requires c κs = (asks-on (c .before), free-count _ _ (omega (arith, few-on (c .before))))
 
 mul-if2 : tie.Need-mul-if2
-mul-if2 c =
-    let s = c .before .before .before .before .before .before .before .before .before .before .before .before .before .before .before .before in
-    let a = s .args in
-    record { fits = omega (arith, c .before .before .transfer-claims .ensures .next, few-transfer (a .calendar .now) (a .tables .now) (a .book .day) (a .book .count + 1) (a .t) (c .before .before .before .before .before .before .before .before .tag-of .result)) }
+mul-if2 c = record { fits = omega (arith, c .before .before .transfer-claims .ensures .next, few-on (c .before .before .before .before)) }
 
 refused-requires-2 : tie.Need-refused-requires-2
 refused-requires-2 c κs = search needs
@@ -83,36 +110,28 @@ same-length-3 c = search needs
 returns-2 : tie.Need-returns-2
 unfolding bufferOf
 returns-2 c =
-    let s = c .before .before .before .before .before .before .before .before .before .before .before .before .before .before .before .before .before .before in
+    let s = c .before .before .before .before .before .before .before .before .before .before .before .before .before .before .before .before .before .before .before in
     let a = s .args in
     let p = c .before .before .before .before .transfer-claims .ensures in
     rw (c .refused2 .ensures, p .bytes)
     (answers-refused (a .calendar .now) (a .tables .now) (a .book) (a .balances .now) (transfer (record { message = a .message .now; buffer = a .claims .now })) _
     (sound-number (a .calendar .now) (a .tables .now) (a .book) (a .balances .now) (transfer (record { message = a .message .now; buffer = a .claims .now })) _ (s .pre .0)
-    (read-room (a .calendar .now) (a .tables .now) (a .book) (a .balances .now) (record { message = a .message .now; buffer = a .claims .now }) (s .pre .1) (a .t) _ (s .pre .2) (tag-read (a .message .now) (c .before .before .before .before .before .before .before .before .before .before .tag-of .ensures) (c .before .before .before .before .before .before .before .before .before .before .before .before .first-line .ensures) (c .before .before .before .before .before .before .before .before .before .before .before .second-line .ensures)) _ (c .before .before .before .before .before .before .before .before .own-number .ensures) (c .before .before .before .before .before .before .before .if1 .left) (omega (arith, p .next, c .before .if2 .taken, c .before .before .before .before .transfer-claims .kept .1 .0))))
+    (read-room (a .calendar .now) (a .tables .now) (a .book) (a .balances .now) (record { message = a .message .now; buffer = a .claims .now }) (s .pre .1) (a .t) _ (s .pre .2) (tag-read (a .message .now) (c .before .before .before .before .before .before .before .before .before .before .before .tag-of .ensures) (c .before .before .before .before .before .before .before .before .before .before .before .before .before .first-line .ensures) (c .before .before .before .before .before .before .before .before .before .before .before .before .second-line .ensures)) _ (c .before .before .before .before .before .before .before .before .before .own-number .ensures) (c .before .before .before .before .before .before .before .before .if1 .left) (omega (arith, p .next, ap length (claims-on (c .before .before .before .before .before .before) .claims), c .before .if2 .taken, c .before .before .before .before .transfer-claims .kept .1 .0))))
     (λ z. omega arith))
 
 post-requires : tie.Need-post-requires
 post-requires c κs =
-    let s = c .before .before .before .before .before .before .before .before .before .before .before .before .before .before .before .before .before .before in
+    let s = c .before .before .before .before .before .before .before .before .before .before .before .before .before .before .before .before .before .before .before in
     let a = s .args in
-    let k = passed _ _ _ _ _ (sym (c .before .before .before .before .before .before .before .before .own-number .ensures) ∙ c .before .before .before .before .before .before .before .if1 .left) in
+    let k = passed _ _ _ _ _ (sym (c .before .before .before .before .before .before .before .before .before .own-number .ensures) ∙ c .before .before .before .before .before .before .before .before .if1 .left) in
     let f = k .fields in
     (judged.sound-number _ _ _ _ (s .pre .0) .tables-sound .balance-words, f .sender, f .receiver, f .security, k .loan)
 
 transfer-claims-requires-2 : tie.Need-transfer-claims-requires-2
-transfer-claims-requires-2 c κs =
-    let s = c .before .before .before .before .before .before .before .before .before .before .before .before .before .before .before .before .before .before .before .before .before .before in
-    let a = s .args in
-    let k = judged.sound-number _ _ _ _ (s .pre .0) .tables-sound in
-    let f = passed _ _ _ _ _ (sym (c .before .before .before .before .before .before .before .before .before .before .before .before .own-number .ensures) ∙ c .before .before .before .before .before .before .before .before .before .before .before .if1 .left) .fields in (
-      k .calendar-words,
-      k .table-words,
-      k .table-rules,
-      f .security,
-      f .sender,
-      free-store _ _ (omega (arith, few-transfer (a .calendar .now) (a .tables .now) (a .book .day) (a .book .count + 1) (a .t) (c .before .before .before .before .before .before .before .before .before .before .before .before .before .before .tag-of .result))) (omega (arith, c .before .before .before .before .before .before .before .before .transfer-claims .ensures .next, c .before .before .before .before .before .if2 .left)),
-    )
+transfer-claims-requires-2 c κs = (
+  asks-on (c .before .before .before .before .before .before .before .before .before .before),
+  free-store _ _ (omega (arith, few-on (c .before .before .before .before .before .before .before .before .before .before))) (omega (arith, c .before .before .before .before .before .before .before .before .transfer-claims .ensures .next, c .before .before .before .before .before .if2 .left)),
+)
 
 same-length-4 : tie.Need-same-length-4
 same-length-4 c = search needs
@@ -123,17 +142,18 @@ same-length-5 c = search needs
 returns-3 : tie.Need-returns-3
 unfolding bufferOf claimsOf nextBook nextBalances
 returns-3 c =
-    let s = c .before .before .before .before .before .before .before .before .before .before .before .before .before .before .before .before .before .before .before .before .before .before .before .before .before in
+    let s = c .before .before .before .before .before .before .before .before .before .before .before .before .before .before .before .before .before .before .before .before .before .before .before .before .before .before in
     let a = s .args in
     let p = c .before .before .before .before .before .before .before .before .before .before .before .transfer-claims .ensures in
     let q = c .before .before .transfer-claims2 .ensures in
-    let e = same-claims (a .calendar .now) (a .tables .now) (a .book) (a .balances .now) (record { message = a .message .now; buffer = a .claims .now }) (s .pre .1) (a .t) _ (s .pre .2) (tag-read (a .message .now) (c .before .before .before .before .before .before .before .before .before .before .before .before .before .before .before .before .before .tag-of .ensures) (c .before .before .before .before .before .before .before .before .before .before .before .before .before .before .before .before .before .before .before .first-line .ensures) (c .before .before .before .before .before .before .before .before .before .before .before .before .before .before .before .before .before .before .second-line .ensures)) _ (c .before .before .before .before .before .before .before .before .before .before .before .before .before .before .before .own-number .ensures) in
+    let w = claims-on (c .before .before .before .before .before .before .before .before .before .before .before .before .before) .claims in
+    let e = same-claims (a .calendar .now) (a .tables .now) (a .book) (a .balances .now) (record { message = a .message .now; buffer = a .claims .now }) (s .pre .1) (a .t) _ (s .pre .2) (tag-read (a .message .now) (c .before .before .before .before .before .before .before .before .before .before .before .before .before .before .before .before .before .before .tag-of .ensures) (c .before .before .before .before .before .before .before .before .before .before .before .before .before .before .before .before .before .before .before .before .first-line .ensures) (c .before .before .before .before .before .before .before .before .before .before .before .before .before .before .before .before .before .before .before .second-line .ensures)) _ (c .before .before .before .before .before .before .before .before .before .before .before .before .before .before .before .before .own-number .ensures) in
     answers-accepted (a .calendar .now) (a .tables .now) (a .book) (a .balances .now) (transfer (record { message = a .message .now; buffer = a .claims .now })) _ _ _ _
     (sound-number (a .calendar .now) (a .tables .now) (a .book) (a .balances .now) (transfer (record { message = a .message .now; buffer = a .claims .now })) _ (s .pre .0)
-    (read-accepted (a .calendar .now) (a .tables .now) (a .book) (a .balances .now) (record { message = a .message .now; buffer = a .claims .now }) (s .pre .1) (a .t) _ (s .pre .2) (tag-read (a .message .now) (c .before .before .before .before .before .before .before .before .before .before .before .before .before .before .before .before .before .tag-of .ensures) (c .before .before .before .before .before .before .before .before .before .before .before .before .before .before .before .before .before .before .before .first-line .ensures) (c .before .before .before .before .before .before .before .before .before .before .before .before .before .before .before .before .before .before .second-line .ensures)) _ (c .before .before .before .before .before .before .before .before .before .before .before .before .before .before .before .own-number .ensures) (c .before .before .before .before .before .before .before .before .before .before .before .before .before .before .if1 .left) (omega (arith, p .next, c .before .before .before .before .before .before .before .before .if2 .left, c .before .before .before .before .before .before .before .before .before .before .before .transfer-claims .kept .1 .0))))
+    (read-accepted (a .calendar .now) (a .tables .now) (a .book) (a .balances .now) (record { message = a .message .now; buffer = a .claims .now }) (s .pre .1) (a .t) _ (s .pre .2) (tag-read (a .message .now) (c .before .before .before .before .before .before .before .before .before .before .before .before .before .before .before .before .before .before .tag-of .ensures) (c .before .before .before .before .before .before .before .before .before .before .before .before .before .before .before .before .before .before .before .before .first-line .ensures) (c .before .before .before .before .before .before .before .before .before .before .before .before .before .before .before .before .before .before .before .second-line .ensures)) _ (c .before .before .before .before .before .before .before .before .before .before .before .before .before .before .before .before .own-number .ensures) (c .before .before .before .before .before .before .before .before .before .before .before .before .before .before .before .if1 .left) (omega (arith, p .next, ap length w, c .before .before .before .before .before .before .before .before .if2 .left, c .before .before .before .before .before .before .before .before .before .before .before .transfer-claims .kept .1 .0))))
     refl
-    (omega (arith, q .next, ap length e))
-    (passed-written _ _ _ _ _ _ p q ∙ ap (λ x. written x (a .claims .now)) e)
+    (omega (arith, q .next, ap length w, ap length e))
+    (passed-written _ _ _ _ _ _ p q ∙ ap (λ x. written x (a .claims .now)) (sym w ∙ e))
     (c .before .before .before .before .before .before .post .ensures ∙ ap (λ (x : Transfer). changed (a .balances .now) (changeOf x) (x .par)) (s .pre .2))
 
 pub transfer-read-spec : {M : Type 1} → statement M
@@ -148,6 +168,7 @@ transfer-read-spec =
     same-length
     returns
     add-count
+    recent-rows-requires
     transfer-claims-requires
     mul-if2
     refused-requires-2
