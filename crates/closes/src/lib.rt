@@ -1,9 +1,14 @@
 // The close call (document 01, section Close): the day moves to the next open day, and the par on loan at each Record Date that is
 // crossed gives its claims.
 ghost use mathlib.Core.Path.{_≡_};
+ghost use mathlib.Core.Bool.{true};
 ghost use lib.ListN.{length};
+ghost use Rattle.lists.specs.All.{all};
 ghost use Rattle.lists.specs.First.{firstOf};
 ghost use Rattle.days.specs.Days.{openAfter};
+ghost use Rattle.claims.specs.Close.{closeClaims};
+ghost use Rattle.claims.specs.Passes.{Free, Passed};
+ghost use Rattle.claims.specs.Turns.{SoundClose, small};
 ghost use Rattle.book.specs.Soundness.{bookCauses};
 ghost use Rattle.history.specs.Calls.{Call};
 ghost use Rattle.history.specs.Results.{left, result};
@@ -21,6 +26,25 @@ fn next_day(calendar: &[u32], day: u32) -> u32
         Day::On(date) => date.0,
         Day::Nothing => 0,
     }
+}
+
+// Stores the n claims of a close from the buffer's start; where there are none, no row is looked at again.
+fn store(
+    n: usize,
+    claims: &mut [u8],
+    calendar: &[u32],
+    tables: &[u32],
+    day: u32,
+    next: u32,
+    balances: &[u64],
+) -> usize
+    requires { ⌜ SoundClose (now calendar) (now tables) day next × (length (now balances) ≡ 4096) × (all small (now balances) ≡ true) × Free true (now claims) 0 (closeClaims (now calendar) (now tables) day (now balances)) × (n ≡ length (closeClaims (now calendar) (now tables) day (now balances))) ⌝ }
+    ensures { λ r. ⌜ Passed true (now (claims .entry)) (now (claims .exit)) 0 r (closeClaims (now (calendar .entry)) (now (tables .entry)) day (now (balances .entry))) ⌝ }
+{
+    if n == 0 {
+        return 0;
+    }
+    lending::pass_close(true, claims, calendar, tables, day, next, balances)
 }
 
 // The close of a sound book: numbers 1 to 4 do not apply.
@@ -47,7 +71,7 @@ pub fn close_sound(
     if claims.len() < 35 * n {
         return book::refused(10, book);
     }
-    let m = lending::pass_close(true, claims, calendar, tables, day, next, balances);
+    let m = store(n, claims, calendar, tables, day, next, balances);
     let count = book.count;
     Done {
         number: 0,

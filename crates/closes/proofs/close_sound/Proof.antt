@@ -9,6 +9,7 @@ use Rattle.history.specs.Calls.{close, bufferOf, claimsOf}
 use Rattle.history.specs.Results.{nextBook, nextBalances}
 use Rattle.history.proofs.Answers.{answers-refused, answers-accepted, sound-number}
 use Rattle.closes.proofs.Numbers.{close-cut, close-last, close-room, close-accepted, sound-close, small-balances}
+use native.Mathlib.Nat.{zero-add}
 use borrow.Author.Needs.{needs}
 use native.Mathlib.Omega.{arith}
 use Rattle.closes.proofs.close_sound.Statement.{statement}
@@ -91,8 +92,8 @@ returns-3 c =
     (close-room (a .calendar .now) (a .tables .now) (a .book) (a .balances .now) (record { message = a .message .now; buffer = a .claims .now }) (close-is (a .message .now) (c .before .before .before .before .before .before .before .before .before .before .before .before .read-close .ensures) (c .before .before .before .before .before .before .before .before .before .before .enum-told2 .given .1)) (λ z. c .before .before .before .before .before .before .before .if1 .left ((c .before .before .before .before .before .before .before .before .next-day2 .ensures ∙ ap (openAfter (a .calendar .now)) (c .before .before .before .before .before .before .before .before .before .next-day .ensures)) ∙ z)) (omega (arith, p .next, c .before .if2 .taken, c .before .before .before .before .pass-close .kept .1 .0))))
     (λ z. omega arith))
 
-pass-close-requires-2 : tie.Need-pass-close-requires-2
-pass-close-requires-2 c κs =
+store-requires : tie.Need-store-requires
+store-requires c κs =
     let s = c .before .before .before .before .before .before .before .before .before .before .before .before .before .before .before .before .before .before .before in
     let a = s .args in
     let k = judged.sound-number _ _ _ _ (s .pre) in
@@ -101,6 +102,7 @@ pass-close-requires-2 c κs =
       k .tables-sound .balance-words,
       small-balances _ _ _ _ (s .pre),
       free-store _ _ (omega (arith, close-few (a .calendar .now) (a .tables .now) (a .book .day) (a .balances .now))) (omega (arith, p .next, c .before .before .if2 .left)),
+      p .next ∙ zero-add _,
     )
 
 same-length-3 : tie.Need-same-length-3
@@ -115,7 +117,7 @@ returns-4 c =
     let s = c .before .before .before .before .before .before .before .before .before .before .before .before .before .before .before .before .before .before .before .before .before .before in
     let a = s .args in
     let p = c .before .before .before .before .before .before .before .before .pass-close .ensures in
-    let q = c .before .before .pass-close2 .ensures in
+    let q = c .before .before .store .ensures in
     let d : c .before .before .before .before .before .before .before .before .before .before .before .before .before .next-day .result ≡ openAfter (a .calendar .now) (a .book .day) = c .before .before .before .before .before .before .before .before .before .before .before .before .before .next-day .ensures in
     answers-accepted (a .calendar .now) (a .tables .now) (a .book) (a .balances .now) (close (record { message = a .message .now; buffer = a .claims .now })) _ _ _ _
     (sound-number (a .calendar .now) (a .tables .now) (a .book) (a .balances .now) (close (record { message = a .message .now; buffer = a .claims .now })) _ (s .pre)
@@ -144,7 +146,7 @@ close-sound-spec =
     same-length
     same-length-2
     returns-3
-    pass-close-requires-2
+    store-requires
     same-length-3
     same-length-4
     returns-4)
