@@ -1,0 +1,129 @@
+"""Claims: claimrun's output records, and what their numbers mean. Nothing is computed from them."""
+from . import dates, layout, message_text
+from .errors import Fault
+
+CLAIM_TYPES = {1: "fail", 3: "lending"}
+NOTICES = {1: "both amounts are zero",
+           2: "the payment redeems the security",
+           3: "the payer's payment went to a non-interest-bearing account"}
+TIMES = {1: "8:05", 2: "8:45", 3: "during the day"}
+BOOK_ANSWERS = (1, 2, 3, 4)
+LAST_ANSWER = 5
+MEANINGS = {
+    0: "accepted",
+    1: "book.dat is missing or its size is wrong",
+    2: "the calendar has a bit for a day that the month lacks",
+    3: "a table breaks a rule",
+    4: "the opening day is not open or no open day follows it",
+    5: "the record is cut short, or its length or kind is wrong; claimrun stops here",
+    6: "account, security (or an unused one), class, code or par out of range, or sender and receiver the same",
+    7: "the decrease is above the balance",
+    8: "the increase goes past 9,000,000,000",
+    9: "a close with no open day after the next",
+    10: "the claims do not fit the claim buffer",
+    11: "the transfer count is already 4,294,967,295",
+    132: "more than one Contract Date tag opens",
+    133: "a Contract Date tag without } in its line",
+    135: "the Contract Date tag holds no date",
+    138: "the Contract Date is after the day",
+    139: "not a secondary market transfer, and the Contract Date is not the day",
+}
+
+
+def records(file, name):
+    """The claims and answers in a file of claimrun's output, in order."""
+    place = 0
+    while True:
+        data = file.read(layout.HEADER.size)
+        if not data:
+            return
+        header = layout.HEADER.unpack(data) if len(data) == layout.HEADER.size else None
+        form = {layout.CLAIM_HEADER: layout.CLAIM, layout.ANSWER_HEADER: layout.ANSWER}.get(header)
+        where = "%s: byte %d" % (name, place)
+        if header is not None and form is None:
+            raise Fault(where, "no claim or answer begins here (bytes %s)" % data.hex(" "),
+                        "claimrun's output: claims (21 00 03 00) and answers (04 00 04 00)")
+        if form is not None:
+            data += file.read(form.size - layout.HEADER.size)
+        if form is None or len(data) < form.size:
+            raise Fault(where, "the record that begins here is cut short",
+                        "whole records: a claim has %d bytes, an answer %d" % (layout.CLAIM.size, layout.ANSWER.size))
+        yield judged(layout.Claim(*form.unpack(data)[2:]) if form is layout.CLAIM
+                     else layout.Answer(*form.unpack(data)[2:]), where)
+        place += form.size
+
+
+def judged(record, where):
+    """The record, if its numbers have a meaning."""
+    if isinstance(record, layout.Answer):
+        if record.number not in MEANINGS:
+            raise Fault(where, "the answer %d has no meaning" % record.number, ", ".join(map(str, MEANINGS)))
+        return record
+    for field, allowed in (("type", CLAIM_TYPES), ("outcome", range(4)), ("payer", range(layout.ACCOUNTS)),
+                           ("payee", range(layout.ACCOUNTS)), ("security", range(layout.SECURITIES)),
+                           ("row", range(layout.ROWS)), ("slot", range(4))):
+        if getattr(record, field) not in allowed:
+            raise Fault(where, "a claim with %s %d" % (field, getattr(record, field)), ", ".join(map(str, allowed)))
+    return record
+
+
+def money(cents):
+    """Cents as dollars and cents."""
+    return "%s.%02d" % (format(cents // 100, ","), cents % 100)
+
+
+def plain_money(cents):
+    """Cents as dollars and cents for other programs: no commas."""
+    return "%d.%02d" % (cents // 100, cents % 100)
+
+
+def release_date(claim):
+    """The release date; none for a notice, whose record has 0."""
+    return dates.show_number(claim.release) if claim.release else ""
+
+
+def beneficiary_date(book, claim):
+    """The Beneficiary Date of the claim's row in the book, as text; empty without a book."""
+    if book is None:
+        return ""
+    return dates.show_number(layout.row_at(book.tables, claim.security, claim.row).beneficiary)
+
+
+def when_or_why(claim):
+    """The time of a claim, or the reason of a notice."""
+    return NOTICES[claim.outcome] if claim.outcome else TIMES.get(claim.slot, "slot %d" % claim.slot)
+
+
+def call_words(message, names):
+    """A message in words."""
+    if isinstance(message, layout.Close):
+        return "close"
+    if isinstance(message, layout.Rest):
+        return "%s bytes that are no whole message" % format(len(message.data), ",")
+    values = message_text.values_of(message)
+    code = next((name for name, number in layout.CODES.items() if number == message.code), "code %d" % message.code)
+    words = ["%s %s to %s" % ("transfer" if code == "none" else code, names.account(message.sender),
+                              names.account(message.receiver)),
+             "security %s" % names.security(message.security), "par %s" % format(message.par, ",")]
+    if message.market:
+        words.append("other market" if message.market == layout.MARKETS["other"] else "class %d" % message.market)
+    if "contract_date" in values:
+        words.append("Contract Date %s" % values["contract_date"])
+    return ", ".join(words + [values[key] for key in ("text1", "text2") if key in values])
+
+
+def answer_words(answer):
+    """An answer's number and its meaning."""
+    return "%d %s%s" % (answer.number, "refused, " if answer.number else "", MEANINGS[answer.number])
+
+
+def numbered(stream, calls=None):
+    """The records with the number of the message that they answer and, where the messages are given, the message.
+    An answer about the book has no message."""
+    number, call, fresh = 0, None, True
+    for record in stream:
+        about_book = isinstance(record, layout.Answer) and record.number in BOOK_ANSWERS
+        if fresh and not about_book:
+            number, call, fresh = number + 1, next(calls, None) if calls is not None else None, False
+        yield (None, None, record) if about_book else (number, call, record)
+        fresh = isinstance(record, layout.Answer)

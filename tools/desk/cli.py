@@ -1,0 +1,178 @@
+"""The command line of claimdesk."""
+import argparse
+import os
+import shutil
+import sys
+import tempfile
+
+from . import board, book, book_text, claims_text, files, layout, message_text, messages, running
+from .errors import Fault
+from .names import Names
+from .sources import Source
+
+PIECE = 1 << 16
+BROKEN_PIPE = 141
+INTERRUPTED = 130
+
+
+def pieces(file):
+    """A file's bytes, piece by piece."""
+    while piece := file.read(PIECE):
+        yield piece
+
+
+def book_make(args):
+    source = Source(args.source)
+    made = book.make(source)
+    files.write(args.output or "book.dat", [made.bytes()], made.paths)
+
+
+def book_show(args):
+    given = book.read(args.file)
+    files.write(args.output, [book_text.show(given).encode("utf-8")], given.paths)
+
+
+def messages_make(args):
+    if args.output is None and sys.stdout.isatty():
+        raise Fault("standard output", "is a terminal, and the records are bytes", "-o FILE, or a pipe to claimrun")
+    source = None if args.source.endswith(".csv") else Source(args.source)
+    names, paths = names_for(args, source)
+    sequence, read_paths = messages.sequence(args.source, source)
+    progress = running.Progress()
+    with tempfile.TemporaryFile() as file:
+        messages.make_into(file, sequence, names, lambda count: progress.show("%d messages made", count))
+        progress.clear()
+        file.seek(0)
+        files.write(args.output, pieces(file), paths + read_paths)
+
+
+def names_for(args, source):
+    """The names that messages may use: those of --book, else those of the book in the same source."""
+    if args.book is not None:
+        given = book.read(args.book)
+        return given.names, given.paths
+    if source is None:
+        return Names(), []
+    source.top.known(*book.KEYS, *book.OTHER_KEYS)
+    if any(source.top.has(key) for key in ("accounts", "security", "book")):
+        given = book.make(source, needs_day=False)
+        return given.names, given.paths
+    return Names(), []
+
+
+def messages_show(args):
+    show = {"toml": message_text.show_toml, "csv": message_text.show_csv}[args.format]
+    with spooled(args.file) as file:
+        text = (piece.encode("utf-8") for piece in show(layout.messages(file)))
+        files.write(args.output, text, [args.file] if args.file else [])
+
+
+def spooled(path):
+    """A file that can be read twice; standard input where no path is given."""
+    if path is not None:
+        try:
+            file = open(path, "rb")
+        except OSError as error:
+            raise files.trouble(path, error) from None
+        if file.seekable():
+            return file
+    else:
+        file = sys.stdin.buffer
+    copy = tempfile.TemporaryFile()
+    shutil.copyfileobj(file, copy)
+    copy.seek(0)
+    return copy
+
+
+def claims_show(args):
+    given = book.read(args.book) if args.book is not None else None
+    name = args.file or "standard input"
+    with spooled(args.file) as output:
+        paths = ([args.file] if args.file else []) + (given.paths if given else [])
+        files.write(args.output, claims_text.show(args.format, output, name, given), paths)
+
+
+def run(args):
+    source = Source(args.source)
+    made = book.make(source)
+    sequence, paths = messages.sequence(args.source, source)
+    progress = running.Progress()
+    with tempfile.TemporaryDirectory(prefix="claimdesk-") as folder:
+        work = running.Run(args.claimrun, folder, made, progress)
+        try:
+            work.messages(sequence)
+            work.work()
+        finally:
+            progress.clear()
+        with work.output() as output:
+            shown = claims_text.show(args.format, output, "claimrun's output", made, work.calls)
+            files.write(args.output, shown, made.paths + paths)
+
+
+def board_make(args):
+    source = Source(args.source)
+    made = book.make(source, needs_day=False)
+    page = board.page(source, made, args.claimrun)
+    files.write(args.output, [page.encode("utf-8")], made.paths)
+
+
+def parser():
+    """What the command line may say."""
+    top = argparse.ArgumentParser(prog="claimdesk", description="Makes claimrun's inputs from text and shows its "
+                                  "records. Bad input ends it with status 1, wrong usage with 2.")
+    groups = top.add_subparsers(required=True, metavar="COMMAND")
+
+    def command(group, name, work, words, output="write to this file instead of standard output"):
+        made = group.add_parser(name, help=words, description=words)
+        made.set_defaults(work=work)
+        made.add_argument("-o", "--output", metavar="FILE", help=output, required=work is board_make)
+        return made
+
+    def pair(name, words):
+        return groups.add_parser(name, help=words, description=words).add_subparsers(required=True, metavar="COMMAND")
+
+    group = pair("book", "make book.dat from text, or show one as text")
+    made = command(group, "make", book_make, "make book.dat from a TOML source", "the file to write (book.dat)")
+    made.add_argument("source", metavar="SOURCE.toml")
+    made = command(group, "show", book_show, "show a book.dat as a source that makes the same bytes")
+    made.add_argument("file", metavar="book.dat")
+    group = pair("messages", "make message records from text, or show them as text")
+    made = command(group, "make", messages_make, "make message records from a TOML or CSV source")
+    made.add_argument("source", metavar="SOURCE.toml|SOURCE.csv")
+    made.add_argument("--book", metavar="SOURCE.toml", help="take the names of accounts and securities from this source")
+    made = command(group, "show", messages_show, "show message records as a source that makes the same bytes")
+    made.add_argument("file", metavar="FILE", nargs="?", help="records (standard input)")
+    made.add_argument("--format", choices=("toml", "csv"), default="toml")
+    group = pair("claims", "show claimrun's output")
+    made = command(group, "show", claims_show, "show the claims and answers that claimrun wrote")
+    made.add_argument("file", metavar="FILE", nargs="?", help="claimrun's output (standard input)")
+    made.add_argument("--book", metavar="book.dat|SOURCE.toml", help="take Beneficiary Dates and names from this book")
+    made.add_argument("--format", choices=claims_text.FORMATS, default="text")
+    made = command(groups, "run", run, "make book and messages, run claimrun and show its claims")
+    made.add_argument("source", metavar="SOURCE.toml")
+    made.add_argument("--format", choices=claims_text.FORMATS, default="text")
+    made.add_argument("--claimrun", metavar="PATH", help="the program (target/bin/claimrun)")
+    made = command(groups, "board", board_make, "draw two transfers side by side on one page", "the page to write")
+    made.add_argument("source", metavar="PAIR.toml")
+    made.add_argument("--claimrun", metavar="PATH", help="the program (target/bin/claimrun)")
+    return top
+
+
+def main(argv=None):
+    """Works the command line and gives the exit status."""
+    args = parser().parse_args(argv)
+    try:
+        args.work(args)
+        return 0
+    except Fault as fault:
+        print("claimdesk: %s" % fault, file=sys.stderr)
+        return 1
+    except BrokenPipeError:
+        os.dup2(os.open(os.devnull, os.O_WRONLY), sys.stdout.fileno())
+        return BROKEN_PIPE
+    except OSError as error:
+        print("claimdesk: %s" % files.trouble(error.filename or "standard output", error), file=sys.stderr)
+        os.dup2(os.open(os.devnull, os.O_WRONLY), sys.stdout.fileno())
+        return 1
+    except KeyboardInterrupt:
+        return INTERRUPTED

@@ -1,0 +1,13 @@
+"""What ends a command with status 1."""
+
+
+class Fault(Exception):
+    """Bad input or a file that cannot be used: where, what is wrong, and what is allowed."""
+
+    def __init__(self, where, what, allowed=None):
+        super().__init__(where, what, allowed)
+        self.where, self.what, self.allowed = where, what, allowed
+
+    def __str__(self):
+        text = "%s: %s" % (self.where, self.what)
+        return text if self.allowed is None else "%s; allowed: %s" % (text, self.allowed)

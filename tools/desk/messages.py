@@ -1,0 +1,182 @@
+"""Messages: transfer and close records from a TOML or CSV source."""
+import csv
+import io
+import os
+import re
+
+from . import dates, files, layout, names
+from .errors import Fault
+from .sources import Fields, Source, listing, sample
+
+TRANSFER_KEYS = ("sender", "receiver", "security", "market", "code", "par", "contract_date", "text1", "text2",
+                 "line1_hex", "line2_hex")
+COLUMNS = ("close",) + TRANSFER_KEYS + ("hex",)
+NUMBER_COLUMNS = ("close", "sender", "receiver", "security", "par")
+MARKER = "{contract_date}"
+CLOSES_MAX = 100_000
+PRINTABLE = re.compile(r"[ -~]*")
+csv.field_size_limit(2 ** 31 - 1)
+
+
+class CsvRow(Fields):
+    """A line of a CSV source; empty cells are absent."""
+
+    def __init__(self, path, line, values):
+        super().__init__(values)
+        self.path, self.line = path, line
+
+    def fault(self, key, what, allowed=None):
+        where = "%s: line %d" % (self.path, self.line)
+        return Fault("%s: %s" % (where, key) if key else where, what, allowed)
+
+
+def tag(day):
+    """The Contract Date tag."""
+    return "{98A:CNTR/%d}" % dates.number(day)
+
+
+def make_one(fields, its_names):
+    """The bytes of one message of a source."""
+    if fields.has("hex"):
+        fields.known("hex")
+        return hex_bytes(fields, "hex", None)
+    if fields.has("close"):
+        fields.known("close")
+        if fields.values["close"] is True:
+            return layout.CLOSE_BYTES
+        return layout.CLOSE_BYTES * fields.integer("close", 1, CLOSES_MAX)
+    fields.known(*COLUMNS)
+    return layout.transfer_bytes(make_transfer(fields, its_names))
+
+
+def make_transfer(fields, its_names):
+    """The transfer that the fields describe."""
+    sender, receiver = (names.account(fields, key, its_names) for key in ("sender", "receiver"))
+    if sender == receiver:
+        raise fields.fault("receiver", "account %d is the sender too" % receiver, "another account than the sender's")
+    security = names.security(fields, "security", its_names)
+    market = fields.choice("market", layout.MARKETS, "secondary")
+    code = fields.choice("code", layout.CODES, "none")
+    par = fields.integer("par", 1, layout.PAR_MAX)
+    return layout.Transfer(sender, receiver, security, market, code, par, *make_lines(fields))
+
+
+def make_lines(fields):
+    """The two free text lines, 64 bytes each."""
+    texts = {key: fields.text(key, "") for key in ("text1", "text2")}
+    if fields.has("contract_date"):
+        written = tag(fields.date("contract_date"))
+        markers = sum(text.count(MARKER) for text in texts.values())
+        if markers > 1:
+            raise fields.fault("text1", "%s stands there more than once" % MARKER, "one place for the tag")
+        if markers == 0:
+            if fields.has("line1_hex"):
+                raise fields.fault("line1_hex", "stands where the tag of contract_date goes",
+                                   "contract_date with text1, or with %s in text2" % MARKER)
+            texts["text1"] = MARKER + texts["text1"]
+        texts = {key: text.replace(MARKER, written) for key, text in texts.items()}
+    return [make_line(fields, number, texts["text%d" % number]) for number in (1, 2)]
+
+
+def make_line(fields, number, text):
+    """One line from its text, filled with spaces, or from its bytes in hex."""
+    key, hex_key = "text%d" % number, "line%d_hex" % number
+    if fields.has(hex_key):
+        if text:
+            raise fields.fault(hex_key, "stands beside %s" % key, "one of the two")
+        return hex_bytes(fields, hex_key, layout.LINE)
+    allowed = "at most 64 printable ASCII characters, the tag of contract_date (19) included"
+    if not PRINTABLE.fullmatch(text):
+        wrong = next(letter for letter in text if not PRINTABLE.fullmatch(letter))
+        raise fields.fault(key, "has the character %s" % ascii(wrong), allowed)
+    if len(text) > layout.LINE:
+        raise fields.fault(key, "the line has %d characters" % len(text), allowed)
+    return text.ljust(layout.LINE).encode("ascii")
+
+
+def hex_bytes(fields, key, size):
+    """Bytes written in hex, of the size asked for."""
+    allowed = "bytes as pairs of hex digits" + (", %d of them" % size if size else "")
+    try:
+        data = bytes.fromhex(fields.text(key))
+    except ValueError:
+        raise fields.fault(key, "%s is no hex" % sample(fields.text(key)), allowed) from None
+    if size is not None and len(data) != size:
+        raise fields.fault(key, "has %d bytes" % len(data), allowed)
+    return data
+
+
+def csv_values(cells):
+    """The values of a CSV line's cells: numbers where a number may stand, the rest as text."""
+    values = {}
+    for column, cell in cells.items():
+        if cell == "":
+            continue
+        plain = cell.replace("_", "").strip()
+        if column in NUMBER_COLUMNS and plain.isascii() and plain.isdecimal() and len(plain) < 20:
+            values[column] = int(plain)
+        elif column == "close" and plain == "true":
+            values[column] = True
+        else:
+            values[column] = cell if column in ("text1", "text2") else cell.strip()
+    return values
+
+
+def csv_rows(path):
+    """The lines of a CSV source behind its header line."""
+    reader = csv.reader(io.StringIO(files.read_text(path), newline=""), strict=True)
+    header = None
+    try:
+        for cells in reader:
+            if not any(cells):
+                continue
+            if header is None:
+                header = csv_header(path, reader.line_num, cells)
+                continue
+            if len(cells) > len(header):
+                raise Fault("%s: line %d" % (path, reader.line_num), "%d cells" % len(cells),
+                            "%d, as in the header line" % len(header))
+            yield CsvRow(path, reader.line_num, csv_values(dict(zip(header, cells))))
+    except csv.Error as error:
+        raise Fault("%s: line %d" % (path, reader.line_num), "no CSV: %s" % error) from None
+    if header is None:
+        raise Fault(path, "has no header line", listing(COLUMNS))
+
+
+def csv_header(path, line, cells):
+    """The columns that the header line names."""
+    header = [cell.strip() for cell in cells]
+    for place, column in enumerate(header):
+        if column not in COLUMNS:
+            raise Fault("%s: line %d" % (path, line), "unknown column %s" % sample(column), listing(COLUMNS))
+        if column in header[:place]:
+            raise Fault("%s: line %d" % (path, line), "column %s stands there twice" % column, "each column once")
+    return header
+
+
+def sequence(path, source=None):
+    """The messages of a source in order, as Fields: those of a .csv file, of a TOML file, or of the file it names."""
+    if str(path).endswith(".csv"):
+        return csv_rows(path), [path]
+    source = source or Source(path)
+    top = source.top
+    if top.has("messages"):
+        if top.has("message"):
+            raise top.fault("message", "stands beside messages = \"%s\"" % top.text("messages"), "one of the two")
+        named = os.path.join(os.path.dirname(path), top.text("messages"))
+        if named.endswith(".csv"):
+            return csv_rows(named), [path, named]
+        inner = Source(named)
+        if inner.top.has("messages"):
+            raise inner.top.fault("messages", "a file of messages that names another", "[[message]] tables")
+        return sequence(named, inner)[0], [path, named]
+    if not top.has("message"):
+        raise Fault(path, "has no messages", "[[message]] tables, or messages = \"FILE\"")
+    return top.tables("message"), [path]
+
+
+def make_into(file, fields_in_order, its_names, tick=lambda count: None):
+    """Writes the records of a source to a file."""
+    for count, fields in enumerate(fields_in_order, 1):
+        file.write(make_one(fields, its_names))
+        tick(count)

@@ -1,0 +1,67 @@
+"""Names of accounts and securities, given in a book's source."""
+from . import layout
+from .sources import listing, sample
+
+
+class Names:
+    """The names by number; an account or security without a name goes by its number."""
+
+    def __init__(self):
+        self.accounts, self.securities = {}, {}
+
+    def account(self, number):
+        return self.label(self.accounts, number)
+
+    def security(self, number):
+        return self.label(self.securities, number)
+
+    @staticmethod
+    def label(names, number):
+        return "%d %s" % (number, names[number]) if number in names else str(number)
+
+
+def checked(fields, key, taken):
+    """A name that is not empty, no number and not taken."""
+    name = fields.text(key).strip()
+    if not name or not name.isprintable() or name.isdecimal():
+        raise fields.fault(key, "%s is no name" % sample(name), "printable text that is not a number alone")
+    if name in taken.values():
+        raise fields.fault(key, "the name %s is given twice" % sample(name), "a name for each number")
+    return name
+
+
+def read_accounts(fields):
+    """The names of an [accounts] table."""
+    names = {}
+    for key in fields.values:
+        if key not in map(str, range(layout.ACCOUNTS)):
+            raise fields.fault(key, "is no account", "0 to %d" % (layout.ACCOUNTS - 1))
+        names[int(key)] = checked(fields, key, names)
+    return names
+
+
+def find(fields, key, value, names, count):
+    """The number that a value stands for: itself, or the number with this name."""
+    limits = "0 to %d" % (count - 1)
+    allowed = limits + (" or a name: " + listing(names.values()) if names else "")
+    if isinstance(value, int) and not isinstance(value, bool):
+        if not 0 <= value < count:
+            raise fields.fault(key, "%d is out of range" % value, allowed)
+        return value
+    if isinstance(value, str):
+        for number, name in names.items():
+            if name == value.strip():
+                return number
+    raise fields.fault(key, "%s is not known" % sample(value), allowed)
+
+
+def account(fields, key, names):
+    """The account under a key."""
+    allowed = "an account, 0 to %d or a name from [accounts]" % (layout.ACCOUNTS - 1)
+    return find(fields, key, fields.value(key, allowed), names.accounts, layout.ACCOUNTS)
+
+
+def security(fields, key, names):
+    """The security under a key."""
+    allowed = "a security, 0 to %d or its name" % (layout.SECURITIES - 1)
+    return find(fields, key, fields.value(key, allowed), names.securities, layout.SECURITIES)
