@@ -1,1 +1,185 @@
-def page(*a): pass
+"""The board: two transfers side by side on one page, with time lines and a fold over who owes what."""
+import datetime
+import tempfile
+from html import escape
+
+from . import book as books
+from . import claims, dates, layout, messages, running, timeline
+from .errors import Fault
+
+TITLE = "Which of these two transfers owes money?"
+DAYS_BEFORE = datetime.timedelta(days=40)
+DAYS_AFTER = datetime.timedelta(days=60)
+KEYS = ("title", "settlement_day", "rows") + messages.TRANSFER_KEYS
+
+STYLE = """
+  :root { color-scheme: light; }
+  * { box-sizing: border-box; }
+  body { font: 16px/1.5 system-ui, "Segoe UI", "Liberation Sans", Arial, sans-serif; color: #111; background: #fff;
+         max-width: 70rem; margin: 0 auto; padding: 1.5rem; overflow-wrap: anywhere; }
+  h1 { font-size: 1.7rem; line-height: 1.25; margin: 0 0 .5rem; }
+  h2 { font-size: 1.2rem; line-height: 1.3; margin: 0 0 .5rem; }
+  p { margin: 0 0 .75rem; }
+  .pair { display: grid; grid-template-columns: 1fr 1fr; gap: 2rem; }
+  .pair > * { min-width: 0; }
+  article { border-top: 3px solid #111; padding-top: .75rem; }
+  dl { display: grid; grid-template-columns: max-content 1fr; gap: .1rem .9rem; margin: 0 0 1rem; }
+  dt { color: #444; }
+  dd { margin: 0; font-weight: 600; }
+  svg { display: block; width: 100%; max-width: 30rem; height: auto; font: 13px system-ui, "Segoe UI",
+        "Liberation Sans", Arial, sans-serif; }
+  svg text { fill: #333; }
+  svg .marked { font-weight: 700; fill: #111; }
+  svg .closed { font-style: italic; fill: #555; }
+  svg .day { fill: #fff; stroke: #777; stroke-width: .8; }
+  svg .hatch { stroke: #333; stroke-width: 1.6; }
+  svg .solid { fill: #111; stroke: #111; }
+  svg .hollow { fill: #fff; stroke: #111; stroke-width: 1.8; stroke-linejoin: round; }
+  .answers { margin-top: 1.5rem; align-items: start; }
+  details { border: 2px solid #111; border-radius: .3rem; padding: .6rem .9rem; }
+  summary { cursor: pointer; font-weight: 700; }
+  details[open] summary { margin-bottom: .5rem; }
+  details p:last-child { margin-bottom: 0; }
+  .paper { display: none; }
+  footer { margin-top: 1.5rem; font-size: .9rem; color: #444; }
+  @media (max-width: 40rem) { .pair { grid-template-columns: 1fr; } }
+  @media print {
+    @page { margin: 12mm; }
+    body { font-size: 11pt; max-width: none; padding: 0; }
+    article { break-inside: avoid; }
+    .pair { gap: 1.2rem; grid-template-columns: 1fr 1fr; }
+    .paper { display: block; margin-top: .75rem; border-bottom: 1px solid #111; height: 2.6em; }
+    details:not([open]) { display: none; }
+    .answers:not(:has(details[open])), body:not(:has(details[open])) footer { display: none; }
+    .answers { break-before: page; margin-top: 0; }
+  }
+"""
+
+
+class Side:
+    """One of the two transfers: what the source says of it and what claimrun wrote for it."""
+
+    def __init__(self, fields, book, path, number):
+        fields.known(*KEYS)
+        self.book, self.number = book, number
+        self.title = fields.text("title", "Transfer %d" % number)
+        self.transfer = messages.make_transfer(fields, book.names)
+        self.settlement = books.opening_day(fields, "settlement_day", book.calendar)
+        self.contract = fields.date("contract_date") if fields.has("contract_date") else None
+        self.rows = self.chosen_rows(fields)
+        self.records = self.work(fields, path)
+
+    def chosen_rows(self, fields):
+        """The rows to draw: those that the source names, else those with a date near the transfer's days."""
+        filled = self.book.rows(self.transfer.security)
+        if fields.has("rows"):
+            allowed = "filled rows of the security: " + (", ".join(str(number) for number, _ in filled) or "none")
+            for value in fields.items("rows", allowed):
+                if isinstance(value, bool) or value not in [number for number, _ in filled]:
+                    raise fields.fault("rows", "%s is no such row" % value, allowed)
+            return [entry for entry in filled if entry[0] in fields.values["rows"]]
+        first = min(self.contract or self.settlement, self.settlement)
+        last = max(self.contract or self.settlement, self.settlement)
+        return [(number, row) for number, row in filled
+                if any(day is not None and first - DAYS_BEFORE <= day <= last + DAYS_AFTER
+                       for day in map(dates.of_number, row[:3]))]
+
+    def work(self, fields, path):
+        """claimrun's records for this transfer alone, on a book opened on its settlement day."""
+        opened = books.Book(self.book.calendar, self.book.tables, dates.number(self.settlement), self.book.names)
+        with tempfile.TemporaryDirectory(prefix="claimdesk-") as folder:
+            run = running.Run(path, folder, opened, running.Progress())
+            run.messages([Plain(fields)])
+            run.work()
+            with run.output() as output:
+                return list(claims.records(output, "claimrun's output"))
+
+    def events(self):
+        """The dates to mark."""
+        marks = [] if self.contract is None else [timeline.Event(self.contract, "contract", "Contract Date")]
+        for number, row in self.rows:
+            which = ", row %d" % number if len(self.rows) > 1 else ""
+            for key, name in (("record", "Record Date"), ("beneficiary", "Beneficiary Date"), ("payment", "Payment Date")):
+                day = dates.of_number(getattr(row, key))
+                if day is not None:
+                    marks.append(timeline.Event(day, key, name + which))
+        return marks + [timeline.Event(self.settlement, "settlement", "Settlement day")]
+
+    def facts(self):
+        """What the source says of the transfer, as names and values."""
+        names, transfer = self.book.names, self.transfer
+        found = [("Sender", names.account_name(transfer.sender)), ("Receiver", names.account_name(transfer.receiver)),
+                 ("Security", names.security_name(transfer.security)), ("Par", "$" + format(transfer.par, ","))]
+        code = layout.name_of(layout.CODES, transfer.code)
+        if transfer.code:
+            found.append(("Tracking code", "%s, %s" % (code, layout.CODE_WORDS[code])))
+        if transfer.market:
+            found.append(("Market", "other than secondary"))
+        found.append(("Contract Date", timeline.day_words(self.contract) if self.contract else "none given"))
+        return found + [("Settlement day", timeline.day_words(self.settlement))]
+
+    def outcome(self):
+        """Who owes what, as paragraphs of HTML, all of it from claimrun's records."""
+        found = [self.claim_words(record) for record in self.records if isinstance(record, layout.Claim)]
+        answer = self.records[-1]
+        if answer.number:
+            found.append("claimrun refuses the transfer: %s." % escape("%d, %s" % (
+                answer.number, claims.MEANINGS[answer.number])))
+        elif not found:
+            found.append("<strong>Nobody owes anything.</strong> claimrun accepts the transfer and writes no claim.")
+        return "".join("<p>%s</p>" % words for words in found)
+
+    def claim_words(self, claim):
+        """A claim or notice as a sentence."""
+        names = self.book.names
+        amounts = "$%s interest and $%s principal" % (claims.money(claim.interest), claims.money(claim.principal))
+        which = "the payment with Beneficiary Date %s (row %d)" % (claims.beneficiary_date(self.book, claim), claim.row)
+        who = (escape(names.account_name(claim.payer)), escape(names.account_name(claim.payee)))
+        if claim.outcome:
+            return "<strong>A notice, no money moves</strong>: %s. It names %s as payer, %s as payee, %s, for %s." % (
+                claims.NOTICES[claim.outcome], *who, amounts, which)
+        return "<strong>%s owes %s</strong> %s, for %s. Release date %s, %s." % (
+            *who, amounts, which, claims.release_date(claim), claims.when_or_why(claim))
+
+
+class Plain(messages.Fields):
+    """The message fields of a [[transfer]] table."""
+
+    def __init__(self, fields):
+        super().__init__({key: value for key, value in fields.values.items() if key in messages.TRANSFER_KEYS})
+        self.fault = fields.fault
+
+
+def article(side, scale):
+    """One column: the transfer's facts and its time line."""
+    facts = "".join("<dt>%s</dt><dd>%s</dd>" % (name, escape(value)) for name, value in side.facts())
+    drawn = timeline.draw(side.number, side.title, side.events(), scale)
+    return '<article>\n<h2>%s</h2>\n<dl>%s</dl>\n%s\n<p class="paper">Your answer:</p>\n</article>\n' % (
+        escape(side.title), facts, drawn)
+
+
+def fold(side):
+    """The fold over who owes what."""
+    return "<details>\n<summary>Who owes what? %s</summary>\n%s\n</details>\n" % (escape(side.title), side.outcome())
+
+
+def page(source, book, path):
+    """The page for a source with two [[transfer]] tables."""
+    top = source.top
+    transfers = top.tables("transfer")
+    if len(transfers) != 2:
+        raise Fault(source.path, "has %d [[transfer]] tables" % len(transfers), "two")
+    path = running.program(path)
+    sides = [Side(fields, book, path, number) for number, fields in enumerate(transfers, 1)]
+    scale = timeline.Scale([side.events() for side in sides], book.calendar)
+    title, question = escape(top.text("title", TITLE)), top.text("question", "")
+    asked = "<p>%s</p>\n" % escape(question) if question else ""
+    asked += "<p>Hatched: a closed day.</p>\n"
+    return ('<!DOCTYPE html>\n<html lang="en">\n<head>\n<meta charset="utf-8">\n'
+            '<meta name="viewport" content="width=device-width, initial-scale=1">\n<title>%s</title>\n'
+            "<style>%s</style>\n</head>\n<body>\n<header>\n<h1>%s</h1>\n%s</header>\n"
+            '<main>\n<div class="pair">\n%s</div>\n<div class="pair answers">\n%s</div>\n</main>\n'
+            "<footer>Who owes what is what claimrun writes for each transfer by itself, on a book opened on its "
+            "settlement day.</footer>\n</body>\n</html>\n" % (
+                title, STYLE, title, asked, "".join(article(side, scale) for side in sides),
+                "".join(map(fold, sides))))

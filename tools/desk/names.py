@@ -10,10 +10,20 @@ class Names:
         self.accounts, self.securities = {}, {}
 
     def account(self, number):
+        """An account's number and name, for tables."""
         return self.label(self.accounts, number)
 
     def security(self, number):
+        """A security's number and name, for tables."""
         return self.label(self.securities, number)
+
+    def account_name(self, number):
+        """An account's name, for sentences."""
+        return self.accounts.get(number, "account %d" % number)
+
+    def security_name(self, number):
+        """A security's name, for sentences."""
+        return self.securities.get(number, "security %d" % number)
 
     @staticmethod
     def label(names, number):
