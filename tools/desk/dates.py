@@ -38,12 +38,12 @@ def read(value):
     return None
 
 
+DAYS = [datetime.date.fromordinal(place) for place in range(FIRST.toordinal(), LAST.toordinal() + 1)]
+
+
 def every_day(first=FIRST, last=LAST):
     """The days from first to last."""
-    day = first
-    while day <= last:
-        yield day
-        day += ONE_DAY
+    return DAYS[first.toordinal() - FIRST.toordinal():last.toordinal() - FIRST.toordinal() + 1]
 
 
 def show_number(value):

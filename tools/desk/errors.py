@@ -10,4 +10,5 @@ class Fault(Exception):
 
     def __str__(self):
         text = "%s: %s" % (self.where, self.what)
-        return text if self.allowed is None else "%s; allowed: %s" % (text, self.allowed)
+        text = text if self.allowed is None else "%s; allowed: %s" % (text, self.allowed)
+        return "".join(letter if letter.isprintable() else ascii(letter)[1:-1] for letter in text)

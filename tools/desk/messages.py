@@ -37,11 +37,13 @@ def tag(day):
 
 def make_one(fields, its_names):
     """The bytes of one message of a source."""
+    for key in ("hex", "close"):
+        other = next((other for other in fields.values if other != key), None)
+        if fields.has(key) and other is not None:
+            raise fields.fault(other, "stands beside %s" % key, "%s alone in its message" % key)
     if fields.has("hex"):
-        fields.known("hex")
         return hex_bytes(fields, "hex", None)
     if fields.has("close"):
-        fields.known("close")
         if fields.values["close"] is True:
             return layout.CLOSE_BYTES
         return layout.CLOSE_BYTES * fields.integer("close", 1, CLOSES_MAX)

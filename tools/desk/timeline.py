@@ -54,9 +54,8 @@ class Scale:
 
     def __init__(self, event_lists, calendar):
         days = [event.day for events in event_lists for event in events]
-        first = max(dates.FIRST.toordinal(), min(days).toordinal() - DAYS_AROUND)
-        last = min(dates.LAST.toordinal(), max(days).toordinal() + DAYS_AROUND)
-        self.days = [datetime.date.fromordinal(place) for place in range(first, last + 1)]
+        around = datetime.timedelta(days=DAYS_AROUND)
+        self.days = dates.every_day(max(dates.FIRST, min(days) - around), min(dates.LAST, max(days) + around))
         self.calendar = calendar
         self.lines = {}
         for events in event_lists:
