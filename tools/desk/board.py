@@ -20,9 +20,10 @@ STYLE = """
   h1 { font-size: 1.7rem; line-height: 1.25; margin: 0 0 .5rem; }
   h2 { font-size: 1.2rem; line-height: 1.3; margin: 0 0 .5rem; }
   p { margin: 0 0 .75rem; }
-  .pair { display: grid; grid-template-columns: 1fr 1fr; gap: 2rem; }
+  .pair { display: grid; grid-template-columns: 1fr 1fr; gap: 0 2rem; }
   .pair > * { min-width: 0; }
-  article { border-top: 3px solid #111; padding-top: .75rem; }
+  article { border-top: 3px solid #111; padding-top: .75rem; display: grid; grid-row: span 4;
+            grid-template-rows: subgrid; row-gap: 0; align-items: start; }
   dl { display: grid; grid-template-columns: max-content 1fr; gap: .1rem .9rem; margin: 0 0 1rem; }
   dt { color: #444; }
   dd { margin: 0; font-weight: 600; }
@@ -42,12 +43,12 @@ STYLE = """
   details p:last-child { margin-bottom: 0; }
   .paper { display: none; }
   footer { margin-top: 1.5rem; font-size: .9rem; color: #444; }
-  @media (max-width: 40rem) { .pair { grid-template-columns: 1fr; } }
+  @media (max-width: 40rem) { .pair { grid-template-columns: 1fr; row-gap: 1rem; } }
   @media print {
     @page { margin: 12mm; }
     body { font-size: 11pt; max-width: none; padding: 0; }
     article { break-inside: avoid; }
-    .pair { gap: 1.2rem; grid-template-columns: 1fr 1fr; }
+    .pair { column-gap: 1.2rem; grid-template-columns: 1fr 1fr; }
     .paper { display: block; margin-top: .75rem; border-bottom: 1px solid #111; height: 2.6em; }
     details:not([open]) { display: none; }
     .answers:not(:has(details[open])), body:not(:has(details[open])) footer { display: none; }

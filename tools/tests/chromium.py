@@ -1,0 +1,129 @@
+"""Headless Chromium, where it is installed: screenshots, measures and prints of a page."""
+import json
+import os
+import re
+import shutil
+import struct
+import subprocess
+import tempfile
+import zlib
+
+PROGRAM = next(filter(None, map(shutil.which, ("chromium", "chromium-browser", "google-chrome", "google-chrome-stable"))), None)
+SECONDS = 60
+TRIES = 2
+
+# Measures the page as it comes and with its folds open. It stands in a copy of the page; the page itself has no script.
+SCRIPT = """<script>
+function box(element) {
+  const b = element.getBoundingClientRect();
+  return {text: element.textContent.trim().slice(0, 60), left: b.left, right: b.right, top: b.top, bottom: b.bottom};
+}
+function measure() {
+  const all = [...document.body.querySelectorAll('*')].filter(e => e.tagName != 'SCRIPT');
+  return {
+    width: window.innerWidth,
+    scroll: document.documentElement.scrollWidth,
+    cut: all.filter(e => !e.closest('svg') && e.scrollWidth > e.clientWidth + 1 && e.clientWidth > 0)
+            .map(e => e.tagName + ' ' + e.textContent.trim().slice(0, 60)),
+    blocks: all.filter(e => !e.closest('svg') && e.checkVisibility()).map(box),
+    lines: [...document.querySelectorAll('svg')].map(
+      s => ({box: box(s), texts: [...s.querySelectorAll('text')].map(box)})),
+    hidden: [...document.querySelectorAll('details p')].map(e => !e.checkVisibility({contentVisibilityAuto: true})),
+    size: parseFloat(getComputedStyle(document.querySelector('svg text')).fontSize)
+          * document.querySelector('svg').getBoundingClientRect().width
+          / document.querySelector('svg').viewBox.baseVal.width
+  };
+}
+const closed = measure();
+document.querySelectorAll('details').forEach(d => { d.open = true; });
+const open = measure();
+const told = document.createElement('pre');
+told.id = 'measured';
+told.textContent = JSON.stringify({closed: closed, open: open});
+document.body.appendChild(told);
+</script>
+"""
+
+
+def run(page, *options):
+    """What Chromium prints for a page; it works in a folder of its own."""
+    for remaining in range(TRIES - 1, -1, -1):
+        folder = tempfile.mkdtemp(prefix="claimdesk-chromium-")
+        try:
+            command = [PROGRAM, "--headless", "--no-sandbox", "--disable-gpu", "--disable-dev-shm-usage", "--no-first-run",
+                       "--disable-extensions", "--disable-background-networking", "--disable-breakpad", "--hide-scrollbars",
+                       "--user-data-dir=" + os.path.join(folder, "profile"), *options, "file://" + page]
+            environment = os.environ | {"HOME": folder, "XDG_CONFIG_HOME": folder, "XDG_CACHE_HOME": folder}
+            return subprocess.run(command, stdin=subprocess.DEVNULL, stdout=subprocess.PIPE, stderr=subprocess.DEVNULL,
+                                  env=environment, cwd=folder, timeout=SECONDS, check=True).stdout
+        except (subprocess.TimeoutExpired, subprocess.CalledProcessError):
+            if not remaining:
+                raise
+        finally:
+            shutil.rmtree(folder, ignore_errors=True)
+
+
+def measures(page, copy, width):
+    """The measures of a page in a window of this width."""
+    with open(page, encoding="utf-8") as file:
+        text = file.read()
+    with open(copy, "w", encoding="utf-8") as file:
+        file.write(text.replace("</body>", SCRIPT + "</body>"))
+    dom = run(copy, "--window-size=%d,1200" % width, "--dump-dom").decode("utf-8")
+    told = re.search(r'<pre id="measured">(.*?)</pre>', dom, re.S)[1]
+    for name, letter in (("lt", "<"), ("gt", ">"), ("amp", "&")):
+        told = told.replace("&%s;" % name, letter)
+    return json.loads(told)
+
+
+def screenshot(page, target, width, height):
+    """A picture of the page as its width, height and rows of bytes."""
+    run(page, "--window-size=%d,%d" % (width, height), "--screenshot=" + target)
+    with open(target, "rb") as file:
+        return decode(file.read())
+
+
+def pages(page, target):
+    """How many sheets the page is printed on."""
+    run(page, "--no-pdf-header-footer", "--print-to-pdf=" + target)
+    with open(target, "rb") as file:
+        return len(re.findall(rb"/Type\s*/Page\b(?!s)", file.read()))
+
+
+def decode(data):
+    """Width, height, bytes of a pixel and rows of a PNG with 8 bits a channel."""
+    place, packed = 8, b""
+    while place < len(data):
+        size, name = struct.unpack(">I4s", data[place:place + 8])
+        body = data[place + 8:place + 8 + size]
+        if name == b"IHDR":
+            width, height, _, colour = struct.unpack(">IIBB", body[:10])
+        elif name == b"IDAT":
+            packed += body
+        place += 12 + size
+    pixel = {0: 1, 2: 3, 4: 2, 6: 4}[colour]
+    raw, rows, before = zlib.decompress(packed), [], bytes(width * pixel)
+    for at in range(0, height * (width * pixel + 1), width * pixel + 1):
+        before = unfiltered(raw[at], raw[at + 1:at + 1 + width * pixel], before, pixel)
+        rows.append(before)
+    return width, height, pixel, rows
+
+
+def unfiltered(kind, row, above, pixel):
+    """A row of a PNG with its filter undone."""
+    row = bytearray(row)
+    for at in range(len(row) if kind else 0):
+        left = row[at - pixel] if at >= pixel else 0
+        up, corner = above[at], above[at - pixel] if at >= pixel else 0
+        if kind == 1:
+            guess = left
+        elif kind == 2:
+            guess = up
+        elif kind == 3:
+            guess = (left + up) // 2
+        else:
+            nearest = sorted((abs(up - corner), 0, left) if side == 0 else (abs(left - corner), 1, up) if side == 1
+                             else (abs(left + up - 2 * corner), 2, corner) for side in range(3))
+            guess = nearest[0][2]
+        row[at] = (row[at] + guess) & 255
+    return bytes(row)

@@ -1,0 +1,245 @@
+"""The board: the page's text, and in headless Chromium what a reader sees of it."""
+import html.parser
+import os
+import re
+import sys
+import unittest
+
+import chromium
+import common
+from common import BOOK, EXAMPLES, PAIR, content
+
+WORKSHOP = os.path.join(EXAMPLES, "workshop-pair.toml")
+WIDTHS = (800, 1600)
+
+# Long names, many rows, several marks on one day, marks on closed days, a span of years.
+HARD = """title = "A pair with %s"
+[calendar]
+holidays = [2023-06-01]
+[accounts]
+1 = "The First Custody and Savings Bank of the Lake and River Counties"
+2 = "Wwwwwwwwwwwwwwwwwwwwwwwwwwwwwwwwwwwwwwwwwwwwwwwwwwwwwwww"
+[[security]]
+number = 3
+type = "US-guaranteed MBS"
+frequency = "monthly"
+%s
+[[transfer]]
+title = "Late by two years, and the title is so long that it takes more than one line of the column it stands in"
+settlement_day = 2023-06-02
+sender = 1
+receiver = 2
+security = 3
+par = 100_000_000
+contract_date = 2021-06-06
+rows = [10, 11, 12, 13, 14]
+[[transfer]]
+settlement_day = 2023-05-31
+sender = 2
+receiver = 1
+security = 3
+par = 1
+code = "ADSL"
+market = "other"
+contract_date = 2023-05-31
+""" % ("a <title> & \\\"quotes\\\"", "".join(
+    "[[security.payment]]\nrecord = %d\nbeneficiary = %d\npayment = %d\ninterest = \"2\"\nprincipal = \"2\"\n" % (
+        (20220000 if month < 13 else 20228800) + month * 100 + 1, (20220000 if month < 13 else 20228800) + month * 100 + 1,
+        (20220000 if month < 13 else 20228800) + month * 100 + 1) for month in range(4, 20)))
+
+
+def setUpModule():
+    if chromium.PROGRAM is None:
+        print("Chromium is not installed: the page is read but not drawn", file=sys.stderr)
+
+
+class Page(html.parser.HTMLParser):
+    """The elements of a page: that each is closed, their attributes and the text."""
+
+    VOID = ("meta", "circle", "rect", "path")
+
+    def __init__(self, text):
+        super().__init__()
+        self.open, self.tags, self.attributes, self.words, self.folded = [], [], [], "", ""
+        self.feed(text)
+        self.close()
+
+    def handle_starttag(self, tag, attributes):
+        self.tags.append(tag)
+        self.attributes += attributes
+        if tag not in self.VOID:
+            self.open.append(tag)
+
+    def handle_startendtag(self, tag, attributes):
+        self.tags.append(tag)
+        self.attributes += attributes
+
+    def handle_endtag(self, tag):
+        assert self.open.pop() == tag, tag
+
+    def handle_data(self, data):
+        if "details" in self.open:
+            self.folded += data
+        elif "style" not in self.open:
+            self.words += data
+
+
+class Pages(common.Desk):
+    """Pages made from sources."""
+
+    def page(self, source):
+        """The path of the page that a source gives."""
+        path = source if os.path.isabs(source) else self.file("pair.toml", source)
+        self.good("board", path, "-o", self.path("board.html"))
+        return self.path("board.html")
+
+    def parsed(self, source):
+        return Page(content(self.page(source)).decode("utf-8"))
+
+
+class Board(Pages):
+    """The text of the page."""
+
+    def test_whole_and_self_contained(self):
+        for source in (WORKSHOP, HARD, BOOK + PAIR):
+            page = self.parsed(source)
+            self.assertEqual(page.open, [])
+            text = content(self.path("board.html")).decode("utf-8")
+            self.assertTrue(text.startswith('<!DOCTYPE html>\n<html lang="en">'))
+            for word in ("<script", "http", "javascript", "<link", "<img", "@import", "src="):
+                self.assertNotIn(word, text)
+            self.assertEqual(set(re.findall(r"url\((.*?)\)", text)), {"#hatch-1", "#hatch-2"})
+            self.assertFalse([name for name, _ in page.attributes if name.startswith("on") or name == "href"])
+            self.assertEqual(page.tags.count("h1"), 1)
+            self.assertEqual(page.tags.count("h2"), 2)
+
+    def test_reads_without_colour(self):
+        text = content(self.page(WORKSHOP)).decode("utf-8")
+        for colour in re.findall(r"#([0-9a-f]{3}|[0-9a-f]{6})\b", text):
+            self.assertTrue(len(set(colour)) == 1, colour)
+
+    def test_texts(self):
+        page = self.parsed(WORKSHOP)
+        for words in ("Settled on the day before", "Settled on the day itself", "Harbor Bank", "Orchard Trust", "$1,000,000",
+                      "Contract Date", "Settlement day", "Record Date", "Beneficiary Date", "Payment Date", "closed",
+                      "Wed 31 May", "Thu 1 Jun", "Hatched: a closed day"):
+            self.assertIn(words, page.words)
+        self.assertIn(("role", "img"), page.attributes)
+        self.assertIn("Time line: Settled on the day before", page.words)
+
+    def test_the_fold_hides_who_owes_what(self):
+        page = self.parsed(WORKSHOP)
+        self.assertEqual(page.tags.count("details"), 2)
+        self.assertNotIn("open", dict(page.attributes))
+        for words in ("Nobody owes anything.", "Harbor Bank owes Orchard Trust", "$5,000.00 interest and $10,000.00 principal",
+                      "Beneficiary Date 2023-06-01 (row 0)", "Release date 2023-06-15, during the day"):
+            self.assertIn(words, page.folded)
+            self.assertNotIn(words, page.words)
+
+    def test_notices_and_refusals(self):
+        source = (BOOK + PAIR).replace('interest = "0.005"', 'interest = "0.005"\nrestricted = [1]', 1)
+        self.assertIn("A notice, no money moves: the payer's payment went to a non-interest-bearing account",
+                      self.parsed(source).folded)
+        source = (BOOK + PAIR).replace("contract_date = 2023-03-15", "contract_date = 2023-04-05", 1)
+        self.assertIn("claimrun refuses the transfer: 138, the Contract Date is after the day", self.parsed(source).folded)
+
+    def test_rows_that_are_drawn(self):
+        both = self.parsed(BOOK + PAIR).words
+        self.assertIn("Payment Date, row 1", both)
+        chosen = self.parsed((BOOK + PAIR).replace('title = "One"', 'title = "One"\nrows = [0]')
+                             .replace('title = "Other"', 'title = "Other"\nrows = []'))
+        self.assertNotIn("row 1", chosen.words)
+
+    def test_names_are_escaped(self):
+        page = self.parsed(HARD)
+        self.assertIn('A pair with a <title> & "quotes"', page.words)
+
+    def test_first_and_last_dates(self):
+        source = """[[security]]
+number = 0
+type = "Treasury"
+frequency = "annual"
+[[security.payment]]
+record = 2000-01-01
+beneficiary = 2000-01-01
+payment = 2039-12-30
+[[transfer]]
+settlement_day = 2000-01-03
+sender = 0
+receiver = 1
+security = 0
+par = 1
+contract_date = 2000-01-01
+[[transfer]]
+settlement_day = 2039-12-29
+sender = 0
+receiver = 1
+security = 0
+par = 1
+contract_date = 2000-01-01
+"""
+        page = self.parsed(source)
+        self.assertIn("Fri 30 Dec", page.words)
+        self.assertIn("2039", page.words)
+
+
+@unittest.skipIf(chromium.PROGRAM is None, "Chromium is not installed")
+class Seen(Pages):
+    """What Chromium makes of the page."""
+
+    def judge(self, found, width):
+        """Nothing is cut off and no texts of a time line overlap."""
+        self.assertEqual(found["width"], width)
+        self.assertLessEqual(found["scroll"], width)
+        self.assertEqual(found["cut"], [])
+        for block in found["blocks"]:
+            self.assertTrue(block["left"] >= 0 and block["right"] <= width, block)
+        self.assertGreaterEqual(found["size"], 11)
+        for line in found["lines"]:
+            edge = line["box"]
+            for text in line["texts"]:
+                self.assertTrue(edge["left"] <= text["left"] and text["right"] <= edge["right"], text)
+                self.assertTrue(edge["top"] <= text["top"] and text["bottom"] <= edge["bottom"], text)
+            for place, one in enumerate(line["texts"]):
+                for other in line["texts"][:place]:
+                    apart = (one["left"] >= other["right"] or other["left"] >= one["right"]
+                             or one["top"] >= other["bottom"] - 4 or other["top"] >= one["bottom"] - 4)
+                    self.assertTrue(apart, (one, other))
+
+    def test_nothing_is_cut_off(self):
+        for source in (WORKSHOP, HARD):
+            page = self.page(source)
+            for width in WIDTHS:
+                with self.subTest(source=source[-40:], width=width):
+                    found = chromium.measures(page, self.path("copy.html"), width)
+                    self.judge(found["closed"], width)
+                    self.judge(found["open"], width)
+                    self.assertTrue(all(found["closed"]["hidden"]))
+                    self.assertFalse(any(found["open"]["hidden"]))
+
+    def test_side_by_side(self):
+        for source in (WORKSHOP, HARD):
+            found = chromium.measures(self.page(source), self.path("copy.html"), 800)["closed"]
+            left, right = (line["box"] for line in found["lines"])
+            self.assertTrue(left["right"] <= right["left"] and left["top"] == right["top"])
+            days = [{text["text"]: text["top"] for text in line["texts"]} for line in found["lines"]]
+            self.assertEqual(days[0]["Wed 31 May"], days[1]["Wed 31 May"])
+
+    def test_a_screenshot_is_drawn(self):
+        page = self.page(WORKSHOP)
+        for width in WIDTHS:
+            drawn, height, pixel, rows = chromium.screenshot(page, self.path("shot.png"), width, 300)
+            self.assertEqual((drawn, height), (width, 300))
+            dark = sum(1 for row in rows for at in range(0, len(row), pixel) if row[at] < 100)
+            self.assertTrue(drawn * height * 0.005 < dark < drawn * height * 0.3, dark)
+
+    def test_printed(self):
+        """The exercise is one sheet; opened answers are on a sheet of their own."""
+        page = self.page(WORKSHOP)
+        self.assertEqual(chromium.pages(page, self.path("closed.pdf")), 1)
+        opened = self.file("open.html", content(page).replace(b"<details>", b"<details open>"))
+        self.assertEqual(chromium.pages(opened, self.path("open.pdf")), 2)
+
+
+if __name__ == "__main__":
+    unittest.main()

@@ -1,0 +1,88 @@
+"""The examples against their stored output, and Attachment II against what the memo says."""
+import json
+import os
+import unittest
+
+import common
+from common import EXAMPLES, content
+
+STORED = os.path.join(EXAMPLES, "output")
+FORMS = {".txt": "text", ".csv": "csv", ".json": "json"}
+
+
+class Examples(common.Desk):
+    def test_stored_output(self):
+        seen = set()
+        for name in sorted(os.listdir(STORED)):
+            source, form = os.path.splitext(name)
+            path = os.path.join(EXAMPLES, source + ".toml")
+            seen.add(source + ".toml")
+            with self.subTest(name=name):
+                if form == ".html":
+                    self.good("board", path, "-o", self.path("page.html"))
+                    self.assertEqual(content(self.path("page.html")), content(os.path.join(STORED, name)))
+                else:
+                    self.assertEqual(self.good("run", path, "--format", FORMS[form]).decode(),
+                                     content(os.path.join(STORED, name)).decode())
+        self.assertEqual(seen, {name for name in os.listdir(EXAMPLES) if name.endswith(".toml")})
+
+    def claims(self, name):
+        """The claims of an example by the free text of the message that they belong to."""
+        records = json.loads(self.good("run", os.path.join(EXAMPLES, name), "--format", "json"))
+        calls = {record["message"]: record["call"] for record in records if record["record"] == "answer"}
+        return calls, [record for record in records if record["record"] != "answer"]
+
+    def test_attachment_2_fails(self):
+        """Payer, payee, Beneficiary Date and release date of examples 1 to 7 are the memo's, with the year 2023."""
+        calls, found = self.claims("attachment-2-fails.toml")
+        self.assertEqual([(calls[claim["message"]][-1], claim["payer_name"], claim["payee_name"], claim["beneficiary_date"],
+                           claim["release_date"]) for claim in found], [
+            ("2", "Bank Y/General", "Bank Z/Trust", "2023-04-01", "2023-04-17"),
+            ("3", "Bank X/Dealer", "Bank Z/Dealer", "2023-04-01", "2023-04-21"),
+            ("6", "Bank Y/General", "Bank Z/Trust", "2023-04-15", "2023-04-21"),
+            ("4", "Bank X/Dealer", "Bank Z/Dealer", "2023-04-01", "2023-05-10"),
+            ("4", "Bank X/Dealer", "Bank Z/Dealer", "2023-05-01", "2023-05-15"),
+            ("7", "Bank Y/Dealer", "Bank X/Dealer", "2023-04-10", "2023-08-16"),
+            ("7", "Bank Y/Dealer", "Bank X/Dealer", "2023-07-10", "2023-08-16")])
+        found = self.claims("attachment-2-fail-2.toml")[1]
+        self.assertEqual([claim["release_date"] for claim in found], ["2024-04-15"])
+
+    def test_attachment_2_lending(self):
+        """The three claims are on the memo's balances of 15,000, 50,000 and 10,000 at factor 0.004."""
+        found = self.claims("attachment-2-lending.toml")[1]
+        self.assertEqual([(claim["payer_name"], claim["payee_name"], claim["security_name"], claim["interest"],
+                           claim["release_date"]) for claim in found], [
+            ("Bank Y/1050", "Bank X/1010", "CUSIP A", "60.00", "2024-02-15"),
+            ("Bank Z/1030", "Bank X/1010", "CUSIP B", "200.00", "2024-02-15"),
+            ("Bank X/1010", "Bank Z/1030", "CUSIP B", "40.00", "2024-02-15")])
+
+    def test_workshop(self):
+        """Only the transfer settled on the Beneficiary Date owes money."""
+        calls, found = self.claims("workshop.toml")
+        self.assertEqual([claim["payee_name"] for claim in found], ["Orchard Trust"])
+
+    def test_busy_day_has_everything(self):
+        calls, found = self.claims("busy-day.toml")
+        words = " ".join(calls.values())
+        for code in ("transfer", "SLST", "SLRV", "CLSL", "CLSR", "ADSL", "ADSR", "close", "other market"):
+            self.assertIn(code, words)
+        self.assertEqual({(claim["type"], claim["outcome"]) for claim in found},
+                         {("fail", 0), ("fail", 3), ("lending", 0), ("lending", 1), ("lending", 2), ("lending", 3)})
+        self.assertEqual({claim["time"] for claim in found if "time" in claim}, {"8:05", "8:45", "during the day"})
+
+    def test_sources_and_records_round_trip(self):
+        for name in sorted(os.listdir(EXAMPLES)):
+            path = os.path.join(EXAMPLES, name)
+            if not name.endswith(".toml") or name == "workshop-pair.toml":
+                continue
+            self.good("book", "make", path, "-o", self.path("book.dat"))
+            text = self.good("book", "show", self.path("book.dat"))
+            self.good("book", "make", self.file("book.toml", text), "-o", self.path("again.dat"))
+            self.assertEqual(content(self.path("again.dat")), content(self.path("book.dat")))
+            records = self.good("messages", "make", path)
+            shown = self.good("messages", "show", self.file("m.dat", records))
+            self.assertEqual(self.good("messages", "make", self.file("m.toml", shown)), records)
+
+
+if __name__ == "__main__":
+    unittest.main()
