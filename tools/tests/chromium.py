@@ -77,7 +77,7 @@ def measures(page, copy, width):
 
 
 def screenshot(page, target, width, height):
-    """A picture of the page as its width, height and rows of bytes."""
+    """A picture of the page as its width, height and rows."""
     run(page, "--window-size=%d,%d" % (width, height), "--screenshot=" + target)
     with open(target, "rb") as file:
         return decode(file.read())
@@ -91,7 +91,7 @@ def pages(page, target):
 
 
 def decode(data):
-    """Width, height, bytes of a pixel and rows of a PNG with 8 bits a channel."""
+    """Width, height and packed rows of a PNG with 8 bits a channel; a blank picture has next to no rows that differ."""
     place, packed = 8, b""
     while place < len(data):
         size, name = struct.unpack(">I4s", data[place:place + 8])
@@ -101,29 +101,6 @@ def decode(data):
         elif name == b"IDAT":
             packed += body
         place += 12 + size
-    pixel = {0: 1, 2: 3, 4: 2, 6: 4}[colour]
-    raw, rows, before = zlib.decompress(packed), [], bytes(width * pixel)
-    for at in range(0, height * (width * pixel + 1), width * pixel + 1):
-        before = unfiltered(raw[at], raw[at + 1:at + 1 + width * pixel], before, pixel)
-        rows.append(before)
-    return width, height, pixel, rows
-
-
-def unfiltered(kind, row, above, pixel):
-    """A row of a PNG with its filter undone."""
-    row = bytearray(row)
-    for at in range(len(row) if kind else 0):
-        left = row[at - pixel] if at >= pixel else 0
-        up, corner = above[at], above[at - pixel] if at >= pixel else 0
-        if kind == 1:
-            guess = left
-        elif kind == 2:
-            guess = up
-        elif kind == 3:
-            guess = (left + up) // 2
-        else:
-            nearest = sorted((abs(up - corner), 0, left) if side == 0 else (abs(left - corner), 1, up) if side == 1
-                             else (abs(left + up - 2 * corner), 2, corner) for side in range(3))
-            guess = nearest[0][2]
-        row[at] = (row[at] + guess) & 255
-    return bytes(row)
+    row = 1 + width * {0: 1, 2: 3, 4: 2, 6: 4}[colour]
+    raw = zlib.decompress(packed)
+    return width, height, [raw[at:at + row] for at in range(0, height * row, row)]

@@ -206,6 +206,13 @@ class Seen(Pages):
                              or one["top"] >= other["bottom"] - 4 or other["top"] >= one["bottom"] - 4)
                     self.assertTrue(apart, (one, other))
 
+    def side_by_side(self, found):
+        """The two time lines stand side by side, each day beside itself."""
+        left, right = (line["box"] for line in found["lines"])
+        self.assertTrue(left["right"] <= right["left"] and left["top"] == right["top"])
+        days = [{text["text"]: text["top"] for text in line["texts"]} for line in found["lines"]]
+        self.assertEqual(days[0]["Wed 31 May"], days[1]["Wed 31 May"])
+
     def test_nothing_is_cut_off(self):
         for source in (WORKSHOP, HARD):
             page = self.page(source)
@@ -214,24 +221,16 @@ class Seen(Pages):
                     found = chromium.measures(page, self.path("copy.html"), width)
                     self.judge(found["closed"], width)
                     self.judge(found["open"], width)
+                    self.side_by_side(found["closed"])
                     self.assertTrue(all(found["closed"]["hidden"]))
                     self.assertFalse(any(found["open"]["hidden"]))
-
-    def test_side_by_side(self):
-        for source in (WORKSHOP, HARD):
-            found = chromium.measures(self.page(source), self.path("copy.html"), 800)["closed"]
-            left, right = (line["box"] for line in found["lines"])
-            self.assertTrue(left["right"] <= right["left"] and left["top"] == right["top"])
-            days = [{text["text"]: text["top"] for text in line["texts"]} for line in found["lines"]]
-            self.assertEqual(days[0]["Wed 31 May"], days[1]["Wed 31 May"])
 
     def test_a_screenshot_is_drawn(self):
         page = self.page(WORKSHOP)
         for width in WIDTHS:
-            drawn, height, pixel, rows = chromium.screenshot(page, self.path("shot.png"), width, 300)
-            self.assertEqual((drawn, height), (width, 300))
-            dark = sum(1 for row in rows for at in range(0, len(row), pixel) if row[at] < 100)
-            self.assertTrue(drawn * height * 0.005 < dark < drawn * height * 0.3, dark)
+            drawn, height, rows = chromium.screenshot(page, self.path("shot.png"), width, 1000)
+            self.assertEqual((drawn, height), (width, 1000))
+            self.assertGreater(len(set(rows)), 200)
 
     def test_printed(self):
         """The exercise is one sheet; opened answers are on a sheet of their own."""

@@ -73,7 +73,7 @@ restricted = [0, "Last Bank"]
 
     def test_random_files(self):
         dice = random.Random(1)
-        for _ in range(8):
+        for _ in range(4):
             self.assertIn("[words", self.back(dice.randbytes(9220)))
 
     def test_extreme_files(self):
@@ -90,7 +90,7 @@ restricted = [0, "Last Bank"]
     def test_damaged_words(self):
         """One or more words of a sound book changed: only what cannot be said otherwise stands among the words."""
         dice = random.Random(3)
-        for _ in range(60):
+        for _ in range(30):
             data = words(content(CASE_BOOK))
             for _ in range(dice.randrange(1, 4)):
                 place = dice.choice((dice.randrange(480), 480 + dice.randrange(40), 480 + dice.randrange(1824), 2304))

@@ -298,7 +298,7 @@ class Errors(common.Desk):
         for place in range(0, len(lines)):
             if "=" not in lines[place]:
                 continue
-            for value in values[place % 3::3]:
+            for value in values[place % 5::5]:
                 changed = lines[:place] + [lines[place].split("=")[0] + "= " + value] + lines[place + 1:]
                 source = self.file("source.toml", "\n".join(changed))
                 for command in (("book", "make"), ("messages", "make"), ("board",)):

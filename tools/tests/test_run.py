@@ -1,4 +1,5 @@
 """Running claimrun, and claimdesk as a process: pipes, terminals, signals."""
+import io
 import os
 import pty
 import signal
@@ -145,8 +146,14 @@ class Runs(common.Desk):
         self.assertIn(b"claimrun: 4 of 149 bytes read", seen)
         self.assertTrue(seen.endswith(b"\r"))
         self.assertEqual(status, 0)
-        run = self.command("run", "s.toml", "--claimrun", slow)
-        self.assertEqual(run.stderr, b"")
+
+    def test_no_progress_without_a_terminal(self):
+        stream = io.StringIO()
+        progress = running.Progress(stream)
+        progress.next = 0
+        progress.show("%d messages made", 1)
+        progress.clear()
+        self.assertEqual(stream.getvalue(), "")
 
     def test_no_progress_of_short_work(self):
         self.file("s.toml", BOOK + MESSAGES)
