@@ -1,6 +1,7 @@
 """The examples against their stored output, and Attachment II against what the memo says."""
 import json
 import os
+import subprocess
 import unittest
 
 import common
@@ -69,6 +70,35 @@ class Examples(common.Desk):
         self.assertEqual({(claim["type"], claim["outcome"]) for claim in found},
                          {("fail", 0), ("fail", 3), ("lending", 0), ("lending", 1), ("lending", 2), ("lending", 3)})
         self.assertEqual({claim["time"] for claim in found if "time" in claim}, {"8:05", "8:45", "during the day"})
+
+    def readme_block(self, first):
+        """The block of README that begins with these words, without its indent."""
+        text = content(os.path.join(common.ROOT, "README.md")).decode("utf-8")
+        lines = text[text.index("    " + first):].split("\n")
+        size = next(at for at, line in enumerate(lines) if line and not line.startswith("    "))
+        return "".join(line[4:] + "\n" for line in lines[:size]).rstrip("\n") + "\n"
+
+    def test_readme_shows_the_first_commands_output(self):
+        self.assertEqual(self.readme_block("message  "), content(os.path.join(STORED, "workshop.txt")).decode("utf-8"))
+
+    def test_readme_source_gives_the_claim_it_says(self):
+        source = self.file("mine.toml", self.readme_block("opening_day"))
+        claim = json.loads(self.good("run", source, "--format", "json"))[0]
+        said = [claim[key] for key in ("payer_name", "payee_name", "interest", "release_date", "time")]
+        self.assertEqual(said, ["My Bank", "Your Bank", "900.00", "2024-07-03", "8:45"])
+        words = "%s owes %s %s of interest, released on %s at %s" % tuple(said)
+        self.assertIn(words, " ".join(content(os.path.join(common.ROOT, "README.md")).decode("utf-8").split()))
+
+    def test_readme_by_hand(self):
+        """The commands of README's section, in a copy of the layout."""
+        os.makedirs(self.path("target"))
+        os.symlink(os.path.dirname(common.running.PROGRAM), self.path("target/bin"))
+        for name in ("tools", "examples"):
+            os.symlink(os.path.join(common.ROOT, name), self.path(name))
+        run = subprocess.run(["sh", "-e", "-c", self.readme_block("mkdir -p target/try")], cwd=self.folder,
+                             capture_output=True, timeout=60)
+        self.assertEqual((run.returncode, run.stderr), (0, b""))
+        self.assertIn(b"5,000.00", run.stdout)
 
     def test_sources_and_records_round_trip(self):
         for name in sorted(os.listdir(EXAMPLES)):
