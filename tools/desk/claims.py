@@ -7,6 +7,7 @@ NOTICES = {1: "both amounts are zero",
            2: "the payment redeems the security",
            3: "the payer's payment went to a non-interest-bearing account"}
 TIMES = {1: "8:05", 2: "8:45", 3: "during the day"}
+CODE_NAMES = {number: "transfer" if name == "none" else name for name, number in layout.CODES.items()}
 BOOK_ANSWERS = (1, 2, 3, 4)
 LAST_ANSWER = 5
 MEANINGS = {
@@ -30,41 +31,44 @@ MEANINGS = {
 }
 
 
+FORMS = {layout.CLAIM_HEADER: (layout.CLAIM, layout.Claim), layout.ANSWER_HEADER: (layout.ANSWER, layout.Answer)}
+FIELD_RANGES = (("type", CLAIM_TYPES), ("outcome", range(4)), ("payer", range(layout.ACCOUNTS)),
+                ("payee", range(layout.ACCOUNTS)), ("security", range(layout.SECURITIES)), ("row", range(layout.ROWS)),
+                ("slot", range(4)))
+
+
 def records(file, name):
     """The claims and answers in a file of claimrun's output, in order."""
     place = 0
-    while True:
-        data = file.read(layout.HEADER.size)
-        if not data:
-            return
+    while data := file.read(layout.HEADER.size):
         header = layout.HEADER.unpack(data) if len(data) == layout.HEADER.size else None
-        form = {layout.CLAIM_HEADER: layout.CLAIM, layout.ANSWER_HEADER: layout.ANSWER}.get(header)
-        where = "%s: byte %d" % (name, place)
-        if header is not None and form is None:
-            raise Fault(where, "no claim or answer begins here (bytes %s)" % data.hex(" "),
+        if header is not None and header not in FORMS:
+            raise Fault("%s: byte %d" % (name, place), "no claim or answer begins here (bytes %s)" % data.hex(" "),
                         "claimrun's output: claims (21 00 03 00) and answers (04 00 04 00)")
+        form, kind = FORMS.get(header, (None, None))
         if form is not None:
             data += file.read(form.size - layout.HEADER.size)
         if form is None or len(data) < form.size:
-            raise Fault(where, "the record that begins here is cut short",
+            raise Fault("%s: byte %d" % (name, place), "the record that begins here is cut short",
                         "whole records: a claim has %d bytes, an answer %d" % (layout.CLAIM.size, layout.ANSWER.size))
-        yield judged(layout.Claim(*form.unpack(data)[2:]) if form is layout.CLAIM
-                     else layout.Answer(*form.unpack(data)[2:]), where)
+        record = kind(*form.unpack(data)[2:])
+        fault = problem(record)
+        if fault:
+            raise Fault("%s: byte %d" % (name, place), *fault)
+        yield record
         place += form.size
 
 
-def judged(record, where):
-    """The record, if its numbers have a meaning."""
+def problem(record):
+    """What has no meaning in a record, and what is allowed; None if all of it has."""
     if isinstance(record, layout.Answer):
-        if record.number not in MEANINGS:
-            raise Fault(where, "the answer %d has no meaning" % record.number, ", ".join(map(str, MEANINGS)))
-        return record
-    for field, allowed in (("type", CLAIM_TYPES), ("outcome", range(4)), ("payer", range(layout.ACCOUNTS)),
-                           ("payee", range(layout.ACCOUNTS)), ("security", range(layout.SECURITIES)),
-                           ("row", range(layout.ROWS)), ("slot", range(4))):
+        if record.number in MEANINGS:
+            return None
+        return "the answer %d has no meaning" % record.number, ", ".join(map(str, MEANINGS))
+    for field, allowed in FIELD_RANGES:
         if getattr(record, field) not in allowed:
-            raise Fault(where, "a claim with %s %d" % (field, getattr(record, field)), ", ".join(map(str, allowed)))
-    return record
+            return "a claim with %s %d" % (field, getattr(record, field)), ", ".join(map(str, allowed))
+    return None
 
 
 def money(cents):
@@ -100,16 +104,24 @@ def call_words(message, names):
         return "close"
     if isinstance(message, layout.Rest):
         return "%s bytes that are no whole message" % format(len(message.data), ",")
-    values = message_text.values_of(message)
-    code = next((name for name, number in layout.CODES.items() if number == message.code), "code %d" % message.code)
-    words = ["%s %s to %s" % ("transfer" if code == "none" else code, names.account(message.sender),
-                              names.account(message.receiver)),
+    code = CODE_NAMES.get(message.code, "code %d" % message.code)
+    words = ["%s %s to %s" % (code, names.account(message.sender), names.account(message.receiver)),
              "security %s" % names.security(message.security), "par %s" % format(message.par, ",")]
     if message.market:
         words.append("other market" if message.market == layout.MARKETS["other"] else "class %d" % message.market)
-    if "contract_date" in values:
-        words.append("Contract Date %s" % values["contract_date"])
-    return ", ".join(words + [values[key] for key in ("text1", "text2") if key in values])
+    return ", ".join(words + line_words(message.line1.rstrip(b" "), message.line2.rstrip(b" ")))
+
+
+def line_words(*lines):
+    """The free text in words: the Contract Date where there is one plain tag, then the rest."""
+    found = [match for line in lines for match in message_text.TAG.finditer(line)]
+    day = dates.of_number(int(found[0][1])) if len(found) == 1 else None
+    words = [] if day is None else ["Contract Date %s" % day]
+    for line in lines:
+        rest = line if day is None else line.replace(found[0][0], b"")
+        if rest:
+            words.append("".join(chr(byte) if 32 <= byte < 127 else "." for byte in rest))
+    return words
 
 
 def answer_words(answer):

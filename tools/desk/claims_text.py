@@ -98,16 +98,19 @@ def as_json(numbered, book, names):
     yield "[]\n" if before == "[\n" else "\n]\n"
 
 
-def show(form, output, name, book=None, calls=None):
-    """claimrun's output (a file that can be read twice) in one of the three forms, in pieces of bytes.
-    calls() starts the messages from the first."""
+def show(form, output, name, book=None, calls=None, tick=lambda count: None):
+    """claimrun's output (a file that can be read twice) in one of the three forms, in pieces of bytes. All of it is
+    read before the first piece is given, so that nothing is shown of output that is none. calls() starts the messages
+    from the first; tick is told how many records are shown."""
     names = book.names if book is not None else Names()
 
     def numbered():
         output.seek(0)
         return claims.numbered(claims.records(output, name), calls() if calls is not None else None)
 
-    for _ in numbered():
+    for _ in claims.records(output, name):
         pass
-    for piece in {"text": text, "csv": as_csv, "json": as_json}[form](numbered, book, names):
+    pieces = {"text": text, "csv": as_csv, "json": as_json}[form](numbered, book, names)
+    for count, piece in enumerate(pieces):
+        tick(count)
         yield piece.encode("utf-8")

@@ -41,7 +41,7 @@ def messages_make(args):
     progress = running.Progress()
     with tempfile.TemporaryFile() as file:
         messages.make_into(file, sequence, names, lambda count: progress.show("%d messages made", count))
-        progress.clear()
+        progress.end()
         file.seek(0)
         files.write(args.output, pieces(file), paths + read_paths)
 
@@ -102,11 +102,14 @@ def run(args):
         try:
             work.messages(sequence)
             work.work()
+            if args.output is None and sys.stdout.isatty():
+                progress.end()
+            with work.output() as output:
+                shown = claims_text.show(args.format, output, "claimrun's output", made, work.calls,
+                                         lambda count: progress.show("%d records shown", count))
+                files.write(args.output, shown, made.paths + paths)
         finally:
-            progress.clear()
-        with work.output() as output:
-            shown = claims_text.show(args.format, output, "claimrun's output", made, work.calls)
-            files.write(args.output, shown, made.paths + paths)
+            progress.end()
 
 
 def board_make(args):

@@ -8,7 +8,7 @@ from . import dates, layout, messages
 from .errors import Fault
 from .names import Names
 
-TAG = re.compile(r"\{98A:CNTR/([0-9]{8})\}")
+TAG = re.compile(rb"\{98A:CNTR/([0-9]{8})\}")
 HEX_LINE = 64
 
 
@@ -43,19 +43,17 @@ def candidates(message):
     if message.code:
         values["code"] = layout.name_of(layout.CODES, message.code)
     values["par"] = message.par
-    texts = [line.decode("latin-1").rstrip(" ") for line in (message.line1, message.line2)]
-    found = [(place, match) for place, text in enumerate(texts) for match in TAG.finditer(text)]
-    day = dates.of_number(int(found[0][1][1])) if len(found) == 1 else None
+    lines = (message.line1, message.line2)
+    texts = [line.decode("latin-1").rstrip(" ") for line in lines]
+    found = [match for line in lines for match in TAG.finditer(line)]
+    day = dates.of_number(int(found[0][1])) if len(found) == 1 else None
     if day is not None:
-        place, match = found[0]
-        marked = list(texts)
-        marked[place] = texts[place].replace(match[0], messages.MARKER)
+        marked = [text.replace(messages.tag(day), messages.MARKER) for text in texts]
         if marked[0].startswith(messages.MARKER):
             marked[0] = marked[0][len(messages.MARKER):]
         yield values | {"contract_date": day} | text_values(marked)
     yield values | text_values(texts)
-    yield values | {"line%d_hex" % number: line.hex() for number, line in
-                    enumerate((message.line1, message.line2), 1) if line.strip(b" ")}
+    yield values | {"line%d_hex" % number: line.hex() for number, line in enumerate(lines, 1) if line.strip(b" ")}
 
 
 def text_values(texts):

@@ -32,8 +32,9 @@ class Progress:
         self.stream.flush()
         self.width = len(line)
 
-    def clear(self):
-        """Takes the line away."""
+    def end(self):
+        """Takes the line away, and shows no other."""
+        self.wanted = False
         if self.width:
             self.stream.write("\r" + " " * self.width + "\r")
             self.stream.flush()

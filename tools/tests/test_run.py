@@ -152,7 +152,7 @@ class Runs(common.Desk):
         progress = running.Progress(stream)
         progress.next = 0
         progress.show("%d messages made", 1)
-        progress.clear()
+        progress.end()
         self.assertEqual(stream.getvalue(), "")
 
     def test_no_progress_of_short_work(self):
