@@ -152,10 +152,15 @@ def overlay(fields, words):
 
 def read(path):
     """The book of a file: a source where the name ends in .toml, else a book.dat."""
-    if str(path).endswith(".toml"):
+    if path.lower().endswith(".toml"):
         return make(Source(path), needs_day=False)
+    return read_bytes(path, ", or a source whose name ends in .toml")
+
+
+def read_bytes(path, others=""):
+    """The book of a book.dat."""
     data = files.read_bytes(path)
     if len(data) != layout.BOOK.size:
-        raise Fault(path, "has %s bytes" % format(len(data), ","), "a book.dat of %s bytes, or a source whose name ends "
-                    "in .toml" % format(layout.BOOK.size, ","))
+        raise Fault(path, "has %s bytes" % format(len(data), ","),
+                    "a book.dat of %s bytes%s" % (format(layout.BOOK.size, ","), others))
     return Book(*layout.book_words(data), paths=[path])

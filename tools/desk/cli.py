@@ -28,14 +28,14 @@ def book_make(args):
 
 
 def book_show(args):
-    given = book.read(args.file)
+    given = book.read_bytes(args.file)
     files.write(args.output, [book_text.show(given).encode("utf-8")], given.paths)
 
 
 def messages_make(args):
     if args.output is None and sys.stdout.isatty():
         raise Fault("standard output", "is a terminal, and the records are bytes", "-o FILE, or a pipe to claimrun")
-    source = None if args.source.endswith(".csv") else Source(args.source)
+    source = None if messages.is_csv(args.source) else Source(args.source)
     names, paths = names_for(args, source)
     sequence, read_paths = messages.sequence(args.source, source)
     progress = running.Progress()
@@ -53,7 +53,6 @@ def names_for(args, source):
         return given.names, given.paths
     if source is None:
         return Names(), []
-    source.top.known(*book.KEYS, *book.OTHER_KEYS)
     if any(source.top.has(key) for key in ("accounts", "security", "book")):
         given = book.make(source, needs_day=False)
         return given.names, given.paths

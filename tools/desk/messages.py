@@ -4,7 +4,7 @@ import io
 import os
 import re
 
-from . import dates, files, layout, names
+from . import book, dates, files, layout, names
 from .errors import Fault
 from .sources import Fields, Source, listing, sample
 
@@ -156,20 +156,23 @@ def csv_header(path, line, cells):
     return header
 
 
+def is_csv(path):
+    return path.lower().endswith(".csv")
+
+
 def sequence(path, source=None):
     """The messages of a source in order, as Fields: those of a .csv file, of a TOML file, or of the file it names."""
-    if str(path).endswith(".csv"):
+    if is_csv(path):
         return csv_rows(path), [path]
     source = source or Source(path)
     top = source.top
+    top.known(*book.KEYS, *book.OTHER_KEYS)
     if top.has("messages"):
         if top.has("message"):
             raise top.fault("message", "stands beside messages = \"%s\"" % top.text("messages"), "one of the two")
         named = os.path.join(os.path.dirname(path), top.text("messages"))
-        if named.endswith(".csv"):
-            return csv_rows(named), [path, named]
-        inner = Source(named)
-        if inner.top.has("messages"):
+        inner = None if is_csv(named) else Source(named)
+        if inner and inner.top.has("messages"):
             raise inner.top.fault("messages", "a file of messages that names another", "[[message]] tables")
         return sequence(named, inner)[0], [path, named]
     if not top.has("message"):

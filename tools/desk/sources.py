@@ -27,6 +27,7 @@ def line_table(text):
         if array:
             at = array_path(array[1].split("."), counts)
             lines[at] = number
+            lines.setdefault(at[:-1], number)
         elif table:
             at = tuple(table[1].split("."))
             lines[at] = number
