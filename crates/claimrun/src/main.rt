@@ -1,5 +1,5 @@
 // The program claimrun (document 01): reads book.dat in the working directory, opens the book, and serves the records of standard input to
-// standard output. What it reads and writes goes through stream::serve, whose contract says what is answered.
+// standard output. What it reads and writes goes through serving::serve, whose contract says what is answered.
 ghost use Prim.Native.Nat.{_+_, _≤_};
 ghost use lib.ListN.{length};
 use book::Book;
@@ -134,7 +134,7 @@ fn serve_block(
     let mut at: usize = 0;
     let mut going = true;
     while going {
-        let s = stream::serve(calendar, tables, b, balances, &input[at..], ended, output);
+        let s = serving::serve(calendar, tables, b, balances, &input[at..], ended, output);
         b = s.book;
         at += s.consumed;
         let written = s.written;

@@ -19,5 +19,5 @@ pub extern "C" fn claim_tracker_serve(
 ) -> Served
     ensures { λ r. ⌜ leftServed r (now (balances .exit)) (now (output .exit)) ≡ leaves (now (calendar .entry)) (now (tables .entry)) ended book (now (balances .entry)) (now (input .entry)) (now (output .entry)) ⌝ }
 {
-    stream::serve(calendar, tables, book, balances, input, ended, output)
+    serving::serve(calendar, tables, book, balances, input, ended, output)
 }

@@ -82,7 +82,7 @@ fn turn(
     expected: &[u8],
 ) -> Run {
     let rest = part(input, r.at, input.len());
-    let s = stream::serve(calendar, tables, r.book, balances, rest, ended, output);
+    let s = serving::serve(calendar, tables, r.book, balances, rest, ended, output);
     let is_same = same(
         part(output, 0, s.written),
         part(expected, r.place, s.written),

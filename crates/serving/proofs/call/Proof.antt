@@ -1,10 +1,10 @@
 -- A message that reads as a close is closed, any other is worked as a transfer; 5 is a transfer's answer to what does not read.
 use mathlib.Core.Path.{sym, ap, _∙_}
 use Rattle.records.proofs.Answers.{close-is, close-not}
 use Rattle.stream.proofs.Records.{calls-close, calls-transfer}
 use borrow.Author.Needs.{needs}
-use Rattle.stream.proofs.call.Statement.{statement}
-use Rattle.stream.proofs.call.Tie as tie
+use Rattle.serving.proofs.call.Statement.{statement}
+use Rattle.serving.proofs.call.Tie as tie
 
 read-close-requires : tie.Need-read-close-requires
 read-close-requires c κs = search needs

@@ -1,9 +1,9 @@
 -- The four bytes are compared one after the other.
 use Rattle.stream.proofs.Headers.{header-first, header-second, header-third, header-fourth}
 use native.Mathlib.Omega.{arith}
 use borrow.Author.Needs.{needs}
-use Rattle.stream.proofs.is_header.Statement.{statement}
-use Rattle.stream.proofs.is_header.Tie as tie
+use Rattle.serving.proofs.is_header.Statement.{statement}
+use Rattle.serving.proofs.is_header.Tie as tie
 
 shared-slice-read-if1 : tie.Need-shared-slice-read-if1
 shared-slice-read-if1 c = search needs

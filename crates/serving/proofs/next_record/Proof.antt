@@ -1,9 +1,9 @@
 -- Each return says what the input begins with, by its length and its header.
 use mathlib.Core.Path.{sym, _∙_}
 use Rattle.stream.proofs.Headers.{next-empty, next-short, next-transfer, next-cut, next-close, next-wrong}
 use borrow.Author.Needs.{needs}
-use Rattle.stream.proofs.next_record.Statement.{statement}
-use Rattle.stream.proofs.next_record.Tie as tie
+use Rattle.serving.proofs.next_record.Statement.{statement}
+use Rattle.serving.proofs.next_record.Tie as tie
 
 returns : tie.Need-returns
 returns c = next-empty _ _ (c .if1 .taken)

@@ -1,9 +1,9 @@
 -- Calendar, tables, book and balances are judged once; where they are sound the run is served.
 use mathlib.Core.Path.{sym, _∙_}
 use Rattle.stream.proofs.Runs.{serves-refused, serves-sound}
 use borrow.Author.Needs.{needs}
-use Rattle.stream.proofs.serve.Statement.{statement}
-use Rattle.stream.proofs.serve.Tie as tie
+use Rattle.serving.proofs.serve.Statement.{statement}
+use Rattle.serving.proofs.serve.Tie as tie
 
 book-number-requires : tie.Need-book-number-requires
 book-number-requires c κs = search needs

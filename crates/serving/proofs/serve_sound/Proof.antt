@@ -2,11 +2,11 @@
 use mathlib.Core.Path.{sym, _∙_}
 use Prim.Native.Nat.{_-_}
 use lib.ListN.{length}
 use Rattle.stream.proofs.Runs.{Going, going-start, going-waits, going-ends, going-full, going-again, size-fits, written-fits, going-words}
 use borrow.Author.Needs.{needs}
 use native.Mathlib.Omega.{arith}
-use Rattle.stream.proofs.serve_sound.Statement.{statement}
-use Rattle.stream.proofs.serve_sound.Tie as tie
+use Rattle.serving.proofs.serve_sound.Statement.{statement}
+use Rattle.serving.proofs.serve_sound.Tie as tie
 
 abbrev Inv-loop : tie.InvT-loop
 Inv-loop calendar tables balances₀ input ended output₀ b₀ at₀ out₀ balances output b at out = Going calendar tables ended b₀ balances₀ input output₀ balances output b at out

@@ -1,9 +1,9 @@
 -- The answer is written to the part of the output from its place on.
 use Rattle.records.specs.MessageRecords.{answerValues}
 use Rattle.stream.proofs.Records.{stored-answer}
 use borrow.Author.Needs.{needs}
-use Rattle.stream.proofs.put_answer.Statement.{statement}
-use Rattle.stream.proofs.put_answer.Tie as tie
+use Rattle.serving.proofs.put_answer.Statement.{statement}
+use Rattle.serving.proofs.put_answer.Tie as tie
 
 sub-write-answer : tie.Need-sub-write-answer
 sub-write-answer c = search needs

@@ -2,11 +2,11 @@
 use mathlib.Core.Path.{ap, _∙_}
 use lib.ListN.{length}
 use Prim.Native.Nat.{_+_, _*_}
 use Rattle.stream.specs.Serving.{worked}
 use Rattle.stream.proofs.Records.{Leaves, leaves}
 use borrow.Author.Needs.{needs}
-use Rattle.stream.proofs.work.Statement.{statement}
-use Rattle.stream.proofs.work.Tie as tie
+use Rattle.serving.proofs.work.Statement.{statement}
+use Rattle.serving.proofs.work.Tie as tie
 
 -- what the call leaves
 abbrev Kept : tie.After-call → Type 0
