@@ -8,7 +8,7 @@ ghost use Rattle.lists.specs.First.{firstOf};
 ghost use Rattle.lists.specs.Put.{put};
 ghost use Rattle.book.specs.Soundness.{bookCauses};
 ghost use Rattle.history.specs.Results.{left, result};
-ghost use Rattle.stream.specs.Stream.{header, next, callWith, answerBytes};
+ghost use Rattle.stream.specs.Stream.{header, next, claimRoom, callWith, answerBytes};
 ghost use Rattle.stream.specs.Serving.{worked, working, serving, leftServed, leavesFor, leaves};
 use book::Book;
 use book::Done;
@@ -95,7 +95,7 @@ fn put_answer(output: &mut [u8], at: usize, number: u16)
     records::write_answer(&mut output[at..], Answer { number });
 }
 
-// Works a record on a sound book: its claims and then its answer are written from the output's start.
+// Works a record on a sound book, in a claim buffer of 64 KiB: its claims and then its answer are written from the output's start.
 fn work(
     calendar: &[u32],
     tables: &[u32],
@@ -103,8 +103,9 @@ fn work(
     balances: &mut [u64],
     message: &[u8],
     output: &mut [u8],
+    room: usize,
 ) -> Worked
-    requires { ⌜ (firstOf (bookCauses (now calendar) (now tables) (book .day) (now balances)) ≡ 0) × (65542 ≤ length (now output)) ⌝ }
+    requires { ⌜ (firstOf (bookCauses (now calendar) (now tables) (book .day) (now balances)) ≡ 0) × (65542 ≤ length (now output)) × (room ≡ claimRoom) ⌝ }
     ensures { λ r. ⌜ worked r (now (balances .exit)) (now (output .exit)) ≡ working (now (calendar .entry)) (now (tables .entry)) book (now (balances .entry)) (now (message .entry)) (now (output .entry)) ⌝ }
 {
     let done = call(
@@ -113,7 +114,7 @@ fn work(
         book,
         balances,
         message,
-        &mut output[0..CLAIM_ROOM],
+        &mut output[..room],
     );
     let after = done.book;
     let n = 35 * done.claims;
@@ -169,6 +170,7 @@ fn serve_sound(
             balances,
             &input[at..at + size],
             &mut output[out..],
+            CLAIM_ROOM,
         );
         b = w.book;
         at += size;

@@ -124,18 +124,19 @@ module _ (calendar tables : List ℕ) (book : Book) (balances message l : List �
         output = put l 0 (emitted (r .answer));
       }
 
-  pub record Leaves (d : Done) (o after : List ℕ) : Type 0 where
+  -- what a call leaves, with a claim buffer of a size
+  pub record Leaves (size : ℕ) (d : Done) (o after : List ℕ) : Type 0 where
     -- where the answer begins and ends are words
     pub start : 35 * d .claims < 18446744073709551616
     pub end : 35 * d .claims + 6 < 18446744073709551616
-    pub room-left : 35 * d .claims + 6 ≤ length (o ++ drop 65536 l)
-    pub sized : length (put (o ++ drop 65536 l) (35 * d .claims) (answerBytes (d .number))) ≡ length l
+    pub room-left : 35 * d .claims + 6 ≤ length (o ++ drop size l)
+    pub sized : length (put (o ++ drop size l) (35 * d .claims) (answerBytes (d .number))) ≡ length l
     pub same : _≡_ {A = Working}
         (record {
           book = d .book;
           balances = after;
           written = 35 * d .claims + 6;
-          output = put (o ++ drop 65536 l) (35 * d .claims) (answerBytes (d .number));
+          output = put (o ++ drop size l) (35 * d .claims) (answerBytes (d .number));
         }) (working calendar tables book balances message l)
 
   room-of-call : length part ≡ length (bufferOf call)
@@ -266,7 +267,7 @@ module _ (calendar tables : List ℕ) (book : Book) (balances message l : List �
           written = 35 * d .claims + 6;
           output = put (o ++ drop 65536 l) (35 * d .claims) (answerBytes (d .number));
         }) (working calendar tables book balances message l)
-        → Leaves d o after
+        → Leaves 65536 d o after
     placed f n e =
         record {
           start = omega (arith, f);
@@ -277,14 +278,14 @@ module _ (calendar tables : List ℕ) (book : Book) (balances message l : List �
         }
 
     -- any call
-    pub leaves : left d o after ≡ result calendar tables book balances (callWith part message) → Leaves d o after
+    call-leaves : left d o after ≡ result calendar tables book balances (callWith part message) → Leaves 65536 d o after
     unfolding result working workingFor call
-    leaves e = go (numberFor calendar tables book balances call) refl
+    call-leaves e = go (numberFor calendar tables book balances call) refl
         (subst (λ (c : Call). left d o after ≡ resultFor (numberFor calendar tables book balances c) calendar tables book balances c) (with-buffer part message) e)
       where
         go : (n : ℕ) → numberFor calendar tables book balances call ≡ n
             → left d o after ≡ resultFor (numberFor calendar tables book balances (withBuffer part call)) calendar tables book balances (withBuffer part call)
-            → Leaves d o after
+            → Leaves 65536 d o after
         go zero z e =
             let f : left d o after ≡ resultFor 0 calendar tables book balances (withBuffer part call) =
             e ∙ ap (λ (n : ℕ). resultFor n calendar tables book balances (withBuffer part call)) (number-with calendar tables book balances part call room-of-call ∙ z) in
@@ -294,6 +295,12 @@ module _ (calendar tables : List ℕ) (book : Book) (balances message l : List �
             e ∙ ap (λ (n : ℕ). resultFor n calendar tables book balances (withBuffer part call)) (number-with calendar tables book balances part call room-of-call ∙ z) in
             let k = refused-leaves n f in
             placed (k .0) (whole-length o (ap length (k .2))) (k .1 ∙ ap workingFor (sym z))
+
+    -- a size that is 64 KiB
+    pub leaves : (size : ℕ) → size ≡ 65536 → left d o after ≡ result calendar tables book balances (callWith (take size l) message)
+        → Leaves size d o after
+    leaves size k =
+        subst (λ (n : ℕ). left d o after ≡ result calendar tables book balances (callWith (take n l) message) → Leaves n d o after) (sym k) call-leaves
 
 -- ---- the call that a record asks for
 

@@ -1,9 +1,10 @@
 -- The call leaves its claims in the first 64 KiB of the output, and the answer goes behind them.
-use mathlib.Core.Path.{ap, _∙_}
-use lib.ListN.{length}
+use mathlib.Core.Path.{sym, ap, _∙_}
+use lib.ListN.{length, length-take}
 use Prim.Native.Nat.{_+_, _*_}
 use Rattle.stream.specs.Serving.{worked}
 use Rattle.stream.proofs.Records.{Leaves, leaves}
+use native.Mathlib.Omega.{arith}
 use borrow.Author.Needs.{needs}
 use Rattle.serving.proofs.work.Statement.{statement}
 use Rattle.serving.proofs.work.Tie as tie
@@ -12,21 +13,20 @@ use Rattle.serving.proofs.work.Tie as tie
 abbrev Kept : tie.After-call → Type 0
 Kept c =
     let a = c .before .before .before .before .before .before .before .before .args in
-    Leaves (a .calendar .now) (a .tables .now) (a .book) (a .balances .now) (a .message .now) (a .output .now) (c .before .before .before .before .before .before .before .before .pre .1) (c .call .result) (c .call .last .1 .1 .1 .1 .1 .0) (c .call .last .1 .1 .1 .0)
+    Leaves (a .calendar .now) (a .tables .now) (a .book) (a .balances .now) (a .message .now) (a .output .now) (c .before .before .before .before .before .before .before .before .pre .1) (a .room) (c .call .result) (c .call .last .1 .1 .1 .1 .1 .0) (c .call .last .1 .1 .1 .0)
 
 kept : (c : tie.After-call) → Kept c
 kept c =
     let a = c .before .before .before .before .before .before .before .before .args in
-    leaves (a .calendar .now) (a .tables .now) (a .book) (a .balances .now) (a .message .now) (a .output .now) (c .before .before .before .before .before .before .before .before .pre .1) _ _ _ (c .call .ensures)
+    leaves (a .calendar .now) (a .tables .now) (a .book) (a .balances .now) (a .message .now) (a .output .now) (c .before .before .before .before .before .before .before .before .pre .1) _ _ _ (a .room) (c .before .before .before .before .before .before .before .before .pre .2) (c .call .ensures)
 
-sub-call : tie.Need-sub-call
-sub-call c = search needs
+slice-relend-prefix-call : tie.Need-slice-relend-prefix-call
+slice-relend-prefix-call c = search needs
 
-part-call-start : tie.Need-part-call-start
-part-call-start c = search needs
-
-part-call-end : tie.Need-part-call-end
-part-call-end c = search needs
+slice-aggregate-call : tie.Need-slice-aggregate-call
+slice-aggregate-call c =
+    let p = c .before .before .before .before .before .before .before in
+    sym (length-take (p .args .room) (p .args .output .now) ∙ omega (arith, p .pre .1, p .pre .2))
 
 call-requires : tie.Need-call-requires
 call-requires c κs = search needs
@@ -37,8 +37,8 @@ mul-n c = record { fits = kept (c .before .before .before .before .before .befor
 put-answer-requires : tie.Need-put-answer-requires
 put-answer-requires c κs = kept (c .before .before .before .before .before .before .before) .room-left
 
-add-t13 : tie.Need-add-t13
-add-t13 c = record { fits = kept (c .before .before .before .before .before .before .before .before .before .before) .end }
+add-t18 : tie.Need-add-t18
+add-t18 c = record { fits = kept (c .before .before .before .before .before .before .before .before .before .before) .end }
 
 same-length : tie.Need-same-length
 same-length c = search needs
@@ -57,13 +57,12 @@ pub work-spec : {M : Type 1} → statement M
 work-spec =
     tie.close
     (tie.spec
-    sub-call
-    part-call-start
-    part-call-end
+    slice-relend-prefix-call
+    slice-aggregate-call
     call-requires
     mul-n
     put-answer-requires
-    add-t13
+    add-t18
     same-length
     same-length-2
     returns)
