@@ -1,5 +1,7 @@
 // The program claimrun (document 01): reads book.dat in the working directory, opens the book, and serves the records of standard input to
 // standard output. What it reads and writes goes through serving::serve, whose contract says what is answered.
+ghost use mathlib.Core.Path.{_≡_};
+ghost use mathlib.Core.Bool.{false};
 ghost use Prim.Native.Nat.{_+_, _≤_};
 ghost use lib.ListN.{length};
 use book::Book;
@@ -118,6 +120,16 @@ fn move_down(buf: &mut [u8], from: usize, n: usize)
     }
 }
 
+// Whether a run was the last on its block: it worked nothing, or it stopped though there was room for another record.
+fn is_last(consumed: usize, room: usize) -> bool
+    ensures { λ r. ⌜ (r ≡ false → 1 ≤ consumed) ⌝ }
+{
+    if consumed == 0 {
+        return true;
+    }
+    serving::RECORD_ROOM <= room
+}
+
 // Serves a block of input and writes what it is answered with.
 fn serve_block(
     calendar: &[u32],
@@ -142,7 +154,7 @@ fn serve_block(
         if s.over {
             going = false;
         }
-        if s.consumed == 0 {
+        if is_last(s.consumed, output.len() - written) {
             return Block {
                 book: b,
                 consumed: at,

@@ -18,10 +18,11 @@ use stream::Next;
 use stream::Served;
 use stream::Worked;
 
-// The claim buffer of a record, and the room for it and the answer.
+// The size of a record's claim buffer.
 const CLAIM_ROOM: usize = 65536;
 
-const RECORD_ROOM: usize = 65542;
+// The room in the output that a record asks for: its claim buffer and its answer.
+pub const RECORD_ROOM: usize = 65542;
 
 // Whether the input begins with this length and kind.
 fn is_header(input: &[u8], following: u8, kind: u8) -> bool

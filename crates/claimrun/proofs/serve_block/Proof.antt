@@ -43,6 +43,12 @@ part-write-out-end c = let k = served-inside _ _ _ _ _ _ _ _ _ _ (c .before .bef
 write-out-requires : tie.Need-write-out-requires Inv-loop μ-loop
 write-out-requires c κs = search needs
 
+sub-is-last : tie.Need-sub-is-last Inv-loop μ-loop
+sub-is-last c = let k = served-inside _ _ _ _ _ _ _ _ _ _ (c .before .before .before .before .before .before .before .before .before .before .serve .ensures) in search needs
+
+is-last-requires : tie.Need-is-last-requires Inv-loop μ-loop
+is-last-requires c κs = search needs
+
 same-length : tie.Need-same-length Inv-loop μ-loop
 same-length c = search needs
 
@@ -53,7 +59,10 @@ returns : tie.Need-returns Inv-loop μ-loop
 returns c = let k = served-inside _ _ _ _ _ _ _ _ _ _ (c .before .before .before .before .before .before .before .before .before .before .before .before .serve .ensures) in search needs
 
 loop-less : tie.Need-loop-less Inv-loop μ-loop
-loop-less c = let k = served-inside _ _ _ _ _ _ _ _ _ _ (c .before .before .before .before .before .before .before .before .before .before .before .before .serve .ensures) in search needs
+loop-less c =
+    let k = served-inside _ _ _ _ _ _ _ _ _ _ (c .before .before .before .before .before .before .before .before .before .before .before .before .serve .ensures) in
+    let m = c .before .is-last .ensures (c .if2 .left) in
+    search needs
 
 loop-again : tie.Need-loop-again Inv-loop μ-loop
 loop-again c = let k = served-inside _ _ _ _ _ _ _ _ _ _ (c .before .before .before .before .before .before .before .before .before .before .before .before .serve .ensures) in search needs
@@ -83,6 +92,8 @@ serve-block-spec =
     part-write-out-start
     part-write-out-end
     write-out-requires
+    sub-is-last
+    is-last-requires
     same-length
     same-length-2
     returns
