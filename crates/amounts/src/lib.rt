@@ -188,5 +188,5 @@ pub fn put_claim(buffer: &mut [u8], n: usize, c: Claim)
     ensures { λ _. ⌜ now (buffer .exit) ≡ put (now (buffer .entry)) (35 * n) (claimBytes c) ⌝ }
 {
     let at = 35 * n;
-    records::write_claim(&mut buffer[at..], c);
+    writing::write_claim(&mut buffer[at..], c);
 }

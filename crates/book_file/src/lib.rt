@@ -11,7 +11,7 @@ fn take_words(bytes: &[u8], at: usize, words: &mut [u32])
 {
     let mut i: usize = 0;
     while i < words.len() {
-        words[i] = records::u32_at(bytes, at + 4 * i);
+        words[i] = reading::u32_at(bytes, at + 4 * i);
         i += 1;
     }
 }
@@ -23,5 +23,5 @@ pub fn load(bytes: &[u8], calendar: &mut [u32], tables: &mut [u32]) -> u32
 {
     take_words(bytes, 0, calendar);
     take_words(bytes, 1920, tables);
-    records::u32_at(bytes, 9216)
+    reading::u32_at(bytes, 9216)
 }

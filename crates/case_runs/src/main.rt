@@ -31,7 +31,7 @@ fn print_claim(c: Claim) {
 
 // Writes the line of the claim that bytes begin with.
 fn print_claim_at(s: &[u8]) {
-    match records::read_claim(s) {
+    match reading::read_claim(s) {
         ReadClaim::Is(c) => print_claim(c),
         ReadClaim::Refused => print(b" no claim\n"),
     }

@@ -76,7 +76,7 @@ fn write_out(buf: &[u8]) -> bool {
 // Writes an answer to standard output.
 fn answer(number: u16) {
     let mut out = [0u8; 6];
-    records::write_answer(&mut out, Answer { number });
+    writing::write_answer(&mut out, Answer { number });
     write_out(&out);
 }
 

@@ -59,7 +59,7 @@ pub fn close_sound(
     requires { ⌜ firstOf (bookCauses (now calendar) (now tables) (book .day) (now balances)) ≡ 0 ⌝ }
     ensures { λ r. ⌜ left r (now (claims .exit)) (now (balances .exit)) ≡ result (now (calendar .entry)) (now (tables .entry)) book (now (balances .entry)) (Call.close (record { message = now (message .entry); buffer = now (claims .entry) })) ⌝ }
 {
-    if let ReadClose::Refused = records::read_close(message) {
+    if let ReadClose::Refused = reading::read_close(message) {
         return book::refused(5, book);
     }
     let day = book.day;

@@ -1,4 +1,3 @@
-pub mod Loops
 pub mod Readings
 pub mod Writings
 pub mod RecordKinds

@@ -110,7 +110,7 @@ fn run_transfer(
 ) -> Book {
     let line = [32u8; 64];
     let mut message = [0u8; 141];
-    records::write_transfer(&mut message, fields, &line, &line);
+    writing::write_transfer(&mut message, fields, &line, &line);
     let mut claims = [0u8; 35];
     let done = transfer(
         second,
@@ -135,14 +135,14 @@ fn run_close(
     claims: &mut [u8],
 ) -> Book {
     let mut message = [0u8; 4];
-    records::write_close(&mut message);
+    writing::write_close(&mut message);
     let done = close(second, calendar, tables, book, balances, &message, claims);
     told(name, done, balances)
 }
 
 // Writes the interest of the claim that a buffer begins with.
 fn print_cents(claims: &[u8]) {
-    match records::read_claim(claims) {
+    match reading::read_claim(claims) {
         ReadClaim::Is(claim) => {
             print(b"cents");
             print_field(claim.interest.0);

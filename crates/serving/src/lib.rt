@@ -82,7 +82,7 @@ fn call(
     requires { ⌜ firstOf (bookCauses (now calendar) (now tables) (book .day) (now balances)) ≡ 0 ⌝ }
     ensures { λ r. ⌜ left r (now (claims .exit)) (now (balances .exit)) ≡ result (now (calendar .entry)) (now (tables .entry)) book (now (balances .entry)) (callWith (now (claims .entry)) (now (message .entry))) ⌝ }
 {
-    if let ReadClose::Is = records::read_close(message) {
+    if let ReadClose::Is = reading::read_close(message) {
         return closes::close_sound(calendar, tables, book, balances, message, claims);
     }
     transfers::transfer_sound(calendar, tables, book, balances, message, claims)
@@ -93,7 +93,7 @@ fn put_answer(output: &mut [u8], at: usize, number: u16)
     requires { ⌜ at + 6 ≤ length (now output) ⌝ }
     ensures { λ _. ⌜ now (output .exit) ≡ put (now (output .entry)) at (answerBytes number) ⌝ }
 {
-    records::write_answer(&mut output[at..], Answer { number });
+    writing::write_answer(&mut output[at..], Answer { number });
 }
 
 // Works a record on a sound book, in a claim buffer of 64 KiB: its claims and then its answer are written from the output's start.

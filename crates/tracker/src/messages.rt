@@ -59,7 +59,7 @@ fn line_at(message: &[u8], at: usize) -> [u8; 64]
 pub extern "C" fn claim_tracker_read_transfer(message: &[u8]) -> TransferReading
     ensures { λ r. ⌜ r ≡ transferReading (now (message .entry)) ⌝ }
 {
-    let ReadTransfer::Is(transfer) = records::read_transfer(message) else {
+    let ReadTransfer::Is(transfer) = reading::read_transfer(message) else {
         return TransferReading {
             number: 5,
             transfer: Transfer {
@@ -87,7 +87,7 @@ pub extern "C" fn claim_tracker_read_transfer(message: &[u8]) -> TransferReading
 pub extern "C" fn claim_tracker_read_close(message: &[u8]) -> u16
     ensures { λ r. ⌜ r ≡ reading closeKind (now (message .entry)) .number ⌝ }
 {
-    match records::read_close(message) {
+    match reading::read_close(message) {
         ReadClose::Is => 0,
         ReadClose::Refused => 5,
     }
@@ -98,7 +98,7 @@ pub extern "C" fn claim_tracker_read_close(message: &[u8]) -> u16
 pub extern "C" fn claim_tracker_read_claim(message: &[u8]) -> ClaimReading
     ensures { λ r. ⌜ r ≡ claimReading (now (message .entry)) ⌝ }
 {
-    let ReadClaim::Is(claim) = records::read_claim(message) else {
+    let ReadClaim::Is(claim) = reading::read_claim(message) else {
         return ClaimReading {
             number: 5,
             claim: Claim {
@@ -124,7 +124,7 @@ pub extern "C" fn claim_tracker_read_claim(message: &[u8]) -> ClaimReading
 pub extern "C" fn claim_tracker_read_answer(message: &[u8]) -> AnswerReading
     ensures { λ r. ⌜ r ≡ answerReading (now (message .entry)) ⌝ }
 {
-    let ReadAnswer::Is(answer) = records::read_answer(message) else {
+    let ReadAnswer::Is(answer) = reading::read_answer(message) else {
         return AnswerReading {
             number: 5,
             answer: Answer { number: 0 },
@@ -153,7 +153,7 @@ pub extern "C" fn claim_tracker_write_transfer(
 ) -> u16
     ensures { λ r. ⌜ record { number = r; buffer = now (buffer .exit) } ≡ writing transferKind (transferValues transfer) (now («first_line» .entry) ++ now («second_line» .entry)) (now (buffer .entry)) ⌝ }
 {
-    number_of(records::write_transfer(buffer, transfer, first_line, second_line))
+    number_of(writing::write_transfer(buffer, transfer, first_line, second_line))
 }
 
 // Writes a close to the buffer's start: 0, or 10 for too short a buffer, which is not touched.
@@ -161,7 +161,7 @@ pub extern "C" fn claim_tracker_write_transfer(
 pub extern "C" fn claim_tracker_write_close(buffer: &mut [u8]) -> u16
     ensures { λ r. ⌜ record { number = r; buffer = now (buffer .exit) } ≡ writing closeKind [] [] (now (buffer .entry)) ⌝ }
 {
-    number_of(records::write_close(buffer))
+    number_of(writing::write_close(buffer))
 }
 
 // Writes a claim to the buffer's start: 0, or 10 for too short a buffer, which is not touched.
@@ -169,7 +169,7 @@ pub extern "C" fn claim_tracker_write_close(buffer: &mut [u8]) -> u16
 pub extern "C" fn claim_tracker_write_claim(buffer: &mut [u8], claim: Claim) -> u16
     ensures { λ r. ⌜ record { number = r; buffer = now (buffer .exit) } ≡ writing claimKind (claimValues claim) [] (now (buffer .entry)) ⌝ }
 {
-    number_of(records::write_claim(buffer, claim))
+    number_of(writing::write_claim(buffer, claim))
 }
 
 // Writes an answer to the buffer's start: 0, or 10 for too short a buffer, which is not touched.
@@ -177,5 +177,5 @@ pub extern "C" fn claim_tracker_write_claim(buffer: &mut [u8], claim: Claim) -> 
 pub extern "C" fn claim_tracker_write_answer(buffer: &mut [u8], answer: Answer) -> u16
     ensures { λ r. ⌜ record { number = r; buffer = now (buffer .exit) } ≡ writing answerKind (answerValues answer) [] (now (buffer .entry)) ⌝ }
 {
-    number_of(records::write_answer(buffer, answer))
+    number_of(writing::write_answer(buffer, answer))
 }

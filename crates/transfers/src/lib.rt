@@ -86,7 +86,7 @@ fn transfer_read(
     requires { ⌜ (firstOf (bookCauses (now calendar) (now tables) (book .day) (now balances)) ≡ 0) × (reads transferKind (now message) ≡ true) × (t ≡ transferOf (now message)) ⌝ }
     ensures { λ r. ⌜ left r (now (claims .exit)) (now (balances .exit)) ≡ result (now (calendar .entry)) (now (tables .entry)) book (now (balances .entry)) (Call.transfer (record { message = now (message .entry); buffer = now (claims .entry) })) ⌝ }
 {
-    let tag = tags::tag_of(records::first_line(message), records::second_line(message));
+    let tag = tags::tag_of(reading::first_line(message), reading::second_line(message));
     let number = own_number(tables, book, balances, t, tag);
     if number != 0 {
         return book::refused(number, book);
@@ -119,7 +119,7 @@ pub fn transfer_sound(
     requires { ⌜ firstOf (bookCauses (now calendar) (now tables) (book .day) (now balances)) ≡ 0 ⌝ }
     ensures { λ r. ⌜ left r (now (claims .exit)) (now (balances .exit)) ≡ result (now (calendar .entry)) (now (tables .entry)) book (now (balances .entry)) (Call.transfer (record { message = now (message .entry); buffer = now (claims .entry) })) ⌝ }
 {
-    let ReadTransfer::Is(t) = records::read_transfer(message) else {
+    let ReadTransfer::Is(t) = reading::read_transfer(message) else {
         return book::refused(5, book);
     };
     transfer_read(calendar, tables, book, balances, message, claims, t)

@@ -66,7 +66,7 @@ fn both(a: bool, b: bool) -> bool {
 // Whether the answer with a number, and nothing else, should be written.
 fn is_answer(number: u16, expected: &[u8]) -> bool {
     let mut out = [0u8; 6];
-    records::write_answer(&mut out, Answer { number });
+    writing::write_answer(&mut out, Answer { number });
     same(&out, expected)
 }
 
