@@ -3,4 +3,3 @@ pub mod Judged
 pub mod Rows
 pub mod Causes
 pub mod Posted
-pub mod Quick

@@ -1,4 +1,3 @@
 pub mod Book
 pub mod Loans
 pub mod Soundness
-pub mod Quick

@@ -91,7 +91,7 @@ pub fn close(
 ) -> Done
     ensures { λ r. ⌜ left r (now (claims .exit)) (now (balances .exit)) ≡ result (now (calendar .entry)) (now (tables .entry)) book (now (balances .entry)) (Call.close (record { message = now (message .entry); buffer = now (claims .entry) })) ⌝ }
 {
-    let number = book::book_number(calendar, tables, book.day, balances);
+    let number = judging::book_number(calendar, tables, book.day, balances);
     if number != 0 {
         return book::refused(number, book);
     }

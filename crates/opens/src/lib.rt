@@ -9,7 +9,7 @@ use days::Date;
 pub fn open(calendar: &[u32], tables: &[u32], balances: &mut [u64], day: u32) -> Done
     ensures { λ r. ⌜ (leftOpen r (now (balances .exit)) ≡ opened (now (calendar .entry)) (now (tables .entry)) (now (balances .entry)) day) × (r .claims ≡ 0) ⌝ }
 {
-    let number = book::opening_number(calendar, tables, balances, day);
+    let number = judging::opening_number(calendar, tables, balances, day);
     if number != 0 {
         return book::refused(
             number,

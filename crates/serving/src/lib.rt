@@ -194,7 +194,7 @@ pub fn serve(
 ) -> Served
     ensures { λ r. ⌜ leftServed r (now (balances .exit)) (now (output .exit)) ≡ leaves (now (calendar .entry)) (now (tables .entry)) ended book (now (balances .entry)) (now (input .entry)) (now (output .entry)) ⌝ }
 {
-    let number = book::book_number(calendar, tables, book.day, balances);
+    let number = judging::book_number(calendar, tables, book.day, balances);
     if number != 0 {
         return Served {
             number,

@@ -70,7 +70,7 @@ fn own_number(tables: &[u32], book: Book, balances: &[u64], t: Transfer, tag: Ta
     if 4294967295 <= book.count {
         return 11;
     }
-    book::loan_number(balances, t)
+    loans::loan_number(balances, t)
 }
 
 // The transfer of a sound book with a message that reads.
@@ -98,7 +98,7 @@ fn transfer_read(
     if claims.len() < 35 * n {
         return book::refused(10, book);
     }
-    book::post(balances, t);
+    loans::post(balances, t);
     let m = fails::transfer_claims(true, claims, calendar, tables, day, count, t, rows);
     Done {
         number: 0,
@@ -136,7 +136,7 @@ pub fn transfer(
 ) -> Done
     ensures { λ r. ⌜ left r (now (claims .exit)) (now (balances .exit)) ≡ result (now (calendar .entry)) (now (tables .entry)) book (now (balances .entry)) (Call.transfer (record { message = now (message .entry); buffer = now (claims .entry) })) ⌝ }
 {
-    let number = book::book_number(calendar, tables, book.day, balances);
+    let number = judging::book_number(calendar, tables, book.day, balances);
     if number != 0 {
         return book::refused(number, book);
     }

@@ -1,0 +1,39 @@
+-- Balances that pass the quick test are good; others are judged one by one.
+use mathlib.Core.Path.{sym, _∙_}
+use Rattle.judging.proofs.Quick.{quick-good}
+use borrow.Author.Needs.{needs}
+use Rattle.judging.proofs.bad_balances.Statement.{statement}
+use Rattle.judging.proofs.bad_balances.Tie as tie
+
+excesses-requires : tie.Need-excesses-requires
+excesses-requires c κs = search needs
+
+judge-balances-requires : tie.Need-judge-balances-requires
+judge-balances-requires c κs = search needs
+
+returns : tie.Need-returns
+returns c = search needs
+
+is-apart-requires : tie.Need-is-apart-requires
+is-apart-requires c κs = search needs
+
+returns-2 : tie.Need-returns-2
+returns-2 c = sym (quick-good _ (c .before .before .before .before .before .pre) (sym (c .before .before .before .excesses .ensures) ∙ c .before .before .if1 .left) (c .before .is-apart .ensures (c .if2 .taken)))
+
+judge-balances-requires-2 : tie.Need-judge-balances-requires-2
+judge-balances-requires-2 c κs = search needs
+
+returns-3 : tie.Need-returns-3
+returns-3 c = search needs
+
+pub bad-balances-spec : {M : Type 1} → statement M
+bad-balances-spec =
+    tie.close
+    (tie.spec
+    excesses-requires
+    judge-balances-requires
+    returns
+    is-apart-requires
+    returns-2
+    judge-balances-requires-2
+    returns-3)

@@ -1,0 +1,160 @@
+// Judges calendar, tables, a book's day and its balances (document 01, section The book), with the numbers 1 to 4 of what can be refused.
+// Calendar, tables and balances are taken in any length where a function gives number 1.
+ghost use mathlib.Core.Path.{_≡_};
+ghost use mathlib.Core.Bool.{true};
+ghost use lib.Dec.{eqb};
+ghost use lib.ListN.{length, getD};
+ghost use Rattle.lists.specs.First.{firstOf};
+ghost use Rattle.lists.specs.Sums.{sum};
+ghost use Rattle.lists.specs.Tests.{below};
+ghost use Rattle.book.specs.Book.{position};
+ghost use Rattle.book.specs.Soundness.{badDay, goodBalance, badBalances, tableCauses, bookCauses, openingCauses};
+ghost use Rattle.judging.specs.Quick.{excessOf, selfWord};
+use days::Day;
+
+// The words of the calendar, the tables and the balances.
+const CALENDAR_WORDS: usize = 480;
+
+const TABLE_WORDS: usize = 1824;
+
+const BALANCE_WORDS: usize = 4096;
+
+// The number 1, 2 or 3 that calendar, tables and balances meet, 0 where they meet none.
+fn table_number(calendar: &[u32], tables: &[u32], balances: &[u64]) -> u16
+    ensures { λ r. ⌜ r ≡ firstOf (tableCauses (now (calendar .entry)) (now (tables .entry)) (now (balances .entry))) ⌝ }
+{
+    if calendar.len() != CALENDAR_WORDS {
+        return 1;
+    }
+    if tables.len() != TABLE_WORDS {
+        return 1;
+    }
+    if balances.len() != BALANCE_WORDS {
+        return 1;
+    }
+    if days::bad_calendar(calendar) {
+        return 2;
+    }
+    if securities::good_tables(calendar, tables) {
+        return 0;
+    }
+    3
+}
+
+// Whether a day is not open or has no open day after it.
+fn bad_day(calendar: &[u32], day: u32) -> bool
+    requires { ⌜ length (now calendar) ≡ 480 ⌝ }
+    ensures { λ r. ⌜ r ≡ badDay (now (calendar .entry)) day ⌝ }
+{
+    if days::is_open(calendar, day) {
+        match days::open_after(calendar, day) {
+            Day::On(_) => false,
+            Day::Nothing => true,
+        }
+    } else {
+        true
+    }
+}
+
+// Whether word w may hold a par.
+fn good_balance(w: usize, par: u64) -> bool
+    ensures { λ r. ⌜ r ≡ goodBalance (position w) par ⌝ }
+{
+    if par == 0 {
+        return true;
+    }
+    if book::LARGEST_BALANCE < par {
+        return false;
+    }
+    w / 16 % 16 != w % 16
+}
+
+// Whether a balance is too large, or nonzero where an account would lend itself: the words one by one.
+fn judge_balances(balances: &[u64]) -> bool
+    ensures { λ r. ⌜ r ≡ badBalances (now (balances .entry)) ⌝ }
+{
+    let mut w: usize = 0;
+    while w < balances.len() {
+        if !good_balance(w, balances[w]) {
+            return true;
+        }
+        w += 1;
+    }
+    false
+}
+
+// What balances have above the largest, added up.
+fn excesses(balances: &[u64]) -> u64
+    requires { ⌜ length (now balances) ≡ 4096 ⌝ }
+    ensures { λ r. ⌜ r ≡ sum excessOf (now (balances .entry)) ⌝ }
+{
+    let mut total: u64 = 0;
+    let mut w: usize = 0;
+    while w < balances.len() {
+        let par = balances[w];
+        total += par / 17179869184 + (par % 17179869184 + 8179869183) / 17179869184;
+        w += 1;
+    }
+    total
+}
+
+// Whether no account has lent itself.
+fn is_apart(balances: &[u64]) -> bool
+    requires { ⌜ length (now balances) ≡ 4096 ⌝ }
+    ensures { λ r. ⌜ (r ≡ true → below (λ i. eqb (getD (now (balances .entry)) (selfWord i) 0) 0) 256 ≡ true) ⌝ }
+{
+    let mut n: usize = 0;
+    while n < 256 {
+        if balances[256 * (n / 16) + 17 * (n % 16)] != 0 {
+            return false;
+        }
+        n += 1;
+    }
+    true
+}
+
+// Whether a balance is too large, or nonzero where an account would lend itself. Only where a quick test finds something are the words
+// judged one by one.
+fn bad_balances(balances: &[u64]) -> bool
+    requires { ⌜ length (now balances) ≡ 4096 ⌝ }
+    ensures { λ r. ⌜ r ≡ badBalances (now (balances .entry)) ⌝ }
+{
+    if excesses(balances) != 0 {
+        return judge_balances(balances);
+    }
+    if is_apart(balances) {
+        return false;
+    }
+    judge_balances(balances)
+}
+
+// The first of the numbers 1 to 4 that a transfer or a close meets, 0 where it meets none.
+pub fn book_number(calendar: &[u32], tables: &[u32], day: u32, balances: &[u64]) -> u16
+    ensures { λ r. ⌜ r ≡ firstOf (bookCauses (now (calendar .entry)) (now (tables .entry)) day (now (balances .entry))) ⌝ }
+{
+    let number = table_number(calendar, tables, balances);
+    if number != 0 {
+        return number;
+    }
+    if bad_day(calendar, day) {
+        return 4;
+    }
+    if bad_balances(balances) {
+        return 4;
+    }
+    0
+}
+
+// The first of the numbers 1 to 4 that an opening meets, 0 where it meets none; what the balances hold does not matter.
+pub fn opening_number(calendar: &[u32], tables: &[u32], balances: &[u64], day: u32) -> u16
+    ensures { λ r. ⌜ r ≡ firstOf (openingCauses (now (calendar .entry)) (now (tables .entry)) (now (balances .entry)) day) ⌝ }
+{
+    let number = table_number(calendar, tables, balances);
+    if number != 0 {
+        return number;
+    }
+    if bad_day(calendar, day) {
+        return 4;
+    }
+    0
+}

@@ -1,0 +1,83 @@
+// The loans of transfers (document 01, section Loans): what is posted to the balances, with the numbers 7 and 8 of what can be refused.
+ghost use mathlib.Core.Path.{_≡_};
+ghost use Prim.Native.Nat.{_<_};
+ghost use lib.ListN.{length};
+ghost use Rattle.lists.specs.First.{firstOf};
+ghost use Rattle.book.specs.Book.{word};
+ghost use Rattle.book.specs.Loans.{increasing, decreasing, changeOf, changed, loanCauses};
+use records::Transfer;
+
+// Whether a tracking code adds to what the sender has lent the receiver.
+fn increases(code: u8) -> bool
+    ensures { λ r. ⌜ r ≡ increasing code ⌝ }
+{
+    if code == 1 {
+        return true;
+    }
+    if code == 4 {
+        return true;
+    }
+    code == 5
+}
+
+// Whether a tracking code takes from what the receiver has lent the sender.
+fn decreases(code: u8) -> bool
+    ensures { λ r. ⌜ r ≡ decreasing code ⌝ }
+{
+    if code == 2 {
+        return true;
+    }
+    if code == 3 {
+        return true;
+    }
+    code == 6
+}
+
+// The word of what a lender has lent a borrower in a security.
+fn word_of(security: u8, lender: u8, borrower: u8) -> usize
+    requires { ⌜ (security < 16) × (lender < 16) × (borrower < 16) ⌝ }
+    ensures { λ r. ⌜ (r ≡ word (record { security = security; lender = lender; borrower = borrower })) × (r < 4096) ⌝ }
+{
+    256 * (security as usize) + 16 * (lender as usize) + borrower as usize
+}
+
+// Number 7 for a decrease above the balance, 8 for an increase past the largest balance, 0 for any other transfer.
+pub fn loan_number(balances: &[u64], t: Transfer) -> u16
+    requires { ⌜ (length (now balances) ≡ 4096) × (t .sender < 16) × (t .receiver < 16) × (t .security < 16) ⌝ }
+    ensures { λ r. ⌜ r ≡ firstOf (loanCauses (now (balances .entry)) t) ⌝ }
+{
+    let par = t.par as u64;
+    if increases(t.code) {
+        let lent = balances[word_of(t.security, t.sender, t.receiver)];
+        if book::LARGEST_BALANCE - par < lent {
+            return 8;
+        }
+        return 0;
+    }
+    if decreases(t.code) {
+        let borrowed = balances[word_of(t.security, t.receiver, t.sender)];
+        if borrowed < par {
+            return 7;
+        }
+        return 0;
+    }
+    0
+}
+
+// Adds an accepted transfer's par to its balance or takes it away.
+pub fn post(balances: &mut [u64], t: Transfer)
+    requires { ⌜ (length (now balances) ≡ 4096) × (t .sender < 16) × (t .receiver < 16) × (t .security < 16) × (firstOf (loanCauses (now balances) t) ≡ 0) ⌝ }
+    ensures { λ _. ⌜ now (balances .exit) ≡ changed (now (balances .entry)) (changeOf t) (t .par) ⌝ }
+{
+    let par = t.par as u64;
+    if increases(t.code) {
+        let w = word_of(t.security, t.sender, t.receiver);
+        balances[w] = balances[w] + par;
+        return;
+    }
+    if decreases(t.code) {
+        let w = word_of(t.security, t.receiver, t.sender);
+        balances[w] = balances[w] - par;
+        return;
+    }
+}
