@@ -35,7 +35,7 @@ const REDEEMED: u8 = 2;
 const MASKED: u8 = 3;
 
 // The cents on whole dollars of par at a factor in billionths of a dollar; half a cent goes up.
-pub fn cents_on(par: Dollars, factor: u32) -> Cents
+fn cents_on(par: Dollars, factor: u32) -> Cents
     requires { ⌜ (par .0 ≤ 9000000000) × (factor ≤ 2000000000) ⌝ }
     ensures { λ r. ⌜ r .0 ≡ centsOn (par .0) factor ⌝ }
 {

@@ -12,7 +12,7 @@ use Rattle.lists.specs.Numbers.{numberOf}
 use Rattle.lists.specs.Fields.{part-take, total, decode-take}
 use Rattle.records.specs.MessageRecords.{Kind, transferKind, claimKind, answerKind, size}
 use Rattle.records.specs.MessageRecords.{transferOf, claimOf, answerOf, firstLine, secondLine}
-use Rattle.records.specs.MessageRecords.{headed, reads, Reading, reading}
+use Rattle.records.specs.MessageRecords.{header, headed, reads, Reading, reading}
 use Rattle.records.proofs.RecordKinds.{Lawful, transfer-same, claim-same, answer-same}
 use Rattle.records.proofs.Readings.{transfer-decoded, claim-decoded, answer-decoded}
 
@@ -21,7 +21,7 @@ use Rattle.records.proofs.Readings.{transfer-decoded, claim-decoded, an
 -- of the record's bytes alone the same is read
 module _ (k : Kind) (l : Lawful k) (s : List ℕ) where
   reads-enough : size k ≤ length s → reads k (take (size k) s) ≡ reads k s
-  unfolding reads headed size
+  unfolding reads headed header size
   reads-enough h =
       let n = size k in
       ap₂ (λ (x y : Bool). x && y)

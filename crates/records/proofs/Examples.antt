@@ -13,7 +13,7 @@ use Rattle.records.specs.declared.Claim.{Claim}
 use Rattle.records.specs.declared.Answer.{Answer}
 use Rattle.records.specs.MessageRecords.{Kind, transferKind, closeKind, claimKind, answerKind, size, recordBytes}
 use Rattle.records.specs.MessageRecords.{transferValues, claimValues, transferOf, claimOf, answerOf}
-use Rattle.records.specs.MessageRecords.{headed, reads, reading, writing, firstLine, secondLine}
+use Rattle.records.specs.MessageRecords.{header, headed, reads, reading, writing, firstLine, secondLine}
 
 -- two lists of numbers are the same
 unfoldable pub same : List ℕ → List ℕ → Bool
@@ -66,7 +66,7 @@ wholes =
     ∷ []
 
 pub written-and-read : all holds wholes ≡ true
-unfolding all holds wholes claimBytes answerBytes transferBytes line1 line2 same recordBytes reading reads headed transferKind closeKind claimKind answerKind encode decode bytesOf numberOf
+unfolding all holds wholes claimBytes answerBytes transferBytes line1 line2 same recordBytes reading reads headed header transferKind closeKind claimKind answerKind encode decode bytesOf numberOf
 written-and-read = refl
 
 -- the lines of that transfer
@@ -152,5 +152,5 @@ refusals =
     ∷ []
 
 pub refused-with-5 : all refuses refusals ≡ true
-unfolding all refuses refusals claimBytes answerBytes transferBytes line1 line2 same reading reads headed transferKind closeKind claimKind answerKind decode numberOf
+unfolding all refuses refusals claimBytes answerBytes transferBytes line1 line2 same reading reads headed header transferKind closeKind claimKind answerKind decode numberOf
 refused-with-5 = refl

@@ -19,26 +19,26 @@ use Rattle.records.specs.declared.ReadClaim.the-variants as claim
 use Rattle.records.specs.declared.ReadAnswer.the-variants as answer
 use Rattle.records.specs.MessageRecords.{Kind, transferKind, closeKind, claimKind, answerKind, size}
 use Rattle.records.specs.MessageRecords.{transferValues, claimValues, answerValues, transferOf, claimOf, answerOf, firstLine, secondLine}
-use Rattle.records.specs.MessageRecords.{headed, reads, Reading, reading, transferAnswer, closeAnswer, claimAnswer, answerAnswer}
+use Rattle.records.specs.MessageRecords.{header, headed, reads, Reading, reading, transferAnswer, closeAnswer, claimAnswer, answerAnswer}
 
 -- ---- the header
 
 module _ (following kind : ℕ) (s : List ℕ) where
   pub headed-short : length s < 2 + following → false ≡ headed following kind s
-  unfolding headed
+  unfolding headed header
   headed-short h = rw (lt-leb (2 + following) (length s) h)
 
   pub headed-length : 2 + following ≤ length s → (numberOf (part 0 2 s) ≡ following → ⊥) → false ≡ headed following kind s
-  unfolding headed
+  unfolding headed header
   headed-length h n = rw (le-leb (2 + following) (length s) h, ne-eqb _ _ n)
 
   pub headed-kind : 2 + following ≤ length s → numberOf (part 0 2 s) ≡ following
       → eqb (numberOf (part 2 2 s)) kind ≡ headed following kind s
-  unfolding headed
+  unfolding headed header
   headed-kind h e = rw (le-leb (2 + following) (length s) h, eq-eqb _ _ e)
 
   pub headed-size : headed following kind s ≡ true → 2 + following ≤ length s
-  unfolding headed
+  unfolding headed header
   headed-size t =
       leb-true _ _ (and-left (leb (2 + following) (length s))
       (eqb (numberOf (part 0 2 s)) following && eqb (numberOf (part 2 2 s)) kind) t)

@@ -16,7 +16,7 @@ use Rattle.records.specs.declared.Claim.{Claim}
 use Rattle.records.specs.declared.Answer.{Answer}
 use Rattle.records.specs.MessageRecords.{Kind, transferKind, closeKind, claimKind, answerKind, size, recordBytes}
 use Rattle.records.specs.MessageRecords.{transferValues, claimValues, answerValues, transferOf, claimOf, answerOf, firstLine, secondLine}
-use Rattle.records.specs.MessageRecords.{headed, reads, Reading, reading, writing}
+use Rattle.records.specs.MessageRecords.{header, headed, reads, Reading, reading, writing}
 use Rattle.records.proofs.RecordKinds.{Lawful, transfer-lawful, close-lawful, claim-lawful, answer-lawful}
 use Rattle.records.proofs.RecordKinds.{transfer-same, claim-same, answer-same}
 use Rattle.records.proofs.Readings.{reads-size, reading-is, transfer-decoded, claim-decoded, answer-decoded}
@@ -46,7 +46,7 @@ record-length k l vs text f t =
 
 pub read-written : (k : Kind) → Lawful k → (vs text rest : List ℕ) → Fit (k .widths) vs → length text ≡ k .text
     → ReadsAs k vs text (recordBytes k vs text ++ rest)
-unfolding recordBytes reads headed decode total
+unfolding recordBytes reads headed header decode total
 read-written k l vs text rest f t =
     let ws = k .widths in
     let head = encode (2 ∷ 2 ∷ ws) (k .following ∷ k .kind ∷ vs) in
@@ -74,7 +74,7 @@ read-written k l vs text rest f t =
 
 pub written-read : (k : Kind) → Lawful k → (s : List ℕ) → Bytes s → reads k s ≡ true
     → recordBytes k (decode (k .widths) 4 s) (textOf k s) ≡ take (size k) s
-unfolding recordBytes reads headed decode total size
+unfolding recordBytes reads headed header decode total size
 written-read k l s b r =
     let ws = k .widths in
     let t = and-right (leb (2 + k .following) (length s)) (eqb (numberOf (part 0 2 s)) (k .following) && eqb (numberOf (part 2 2 s)) (k .kind)) r in

@@ -108,10 +108,13 @@ secondLine s = part 77 64 s
 
 -- ---- reading
 
+-- Whether the first four bytes are the length and kind of a record.
+unfoldable pub header : ℕ → ℕ → List ℕ → Bool
+header following kind s = eqb (numberOf (part 0 2 s)) following && eqb (numberOf (part 2 2 s)) kind
+
 -- Whether the bytes begin with a record of the kind: it is not cut short, and length and kind are right for it.
 unfoldable pub headed : ℕ → ℕ → List ℕ → Bool
-headed following kind s =
-    leb (2 + following) (length s) && (eqb (numberOf (part 0 2 s)) following && eqb (numberOf (part 2 2 s)) kind)
+headed following kind s = leb (2 + following) (length s) && header following kind s
 
 unfoldable pub reads : Kind → List ℕ → Bool
 reads k s = headed (k .following) (k .kind) s

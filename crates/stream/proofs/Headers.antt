@@ -11,10 +11,10 @@ use borrow.Author.Tests.{eqb-true, eqb-false, eq-eqb, ne-eqb, le-leb, lt-leb, lt
 use Rattle.lists.specs.Tests.{and-left}
 use Rattle.lists.specs.Numbers.{numberOf}
 use Rattle.lists.specs.Fields.{part}
-use Rattle.records.specs.MessageRecords.{Kind, transferKind, closeKind, size, headed, reads}
+use Rattle.records.specs.MessageRecords.{Kind, transferKind, closeKind, size, header, headed, reads}
 use Rattle.stream.specs.declared.Next.{Next}
 use Rattle.stream.specs.declared.Next.the-variants.{Waiting, Wrong, Record}
-use Rattle.stream.specs.Stream.{header, unready, next}
+use Rattle.stream.specs.Stream.{unready, next}
 
 -- ---- a header
 
@@ -60,7 +60,7 @@ module _ (s : List ℕ) (following kind : ℕ) (h : 4 ≤ length s) (f : followi
 -- ---- what the input begins with
 
 too-short : (k : Kind) (s : List ℕ) → length s < size k → reads k s ≡ false
-unfolding reads headed size
+unfolding reads headed header size
 too-short k s h = rw (lt-leb (2 + k .following) (length s) h) refl
 
 reads-by : (k : Kind) (s : List ℕ) (b : Bool) → header (k .following) (k .kind) s ≡ b → size k ≤ length s → reads k s ≡ b

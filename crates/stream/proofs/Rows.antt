@@ -16,7 +16,7 @@ use Rattle.lists.specs.Select.{select, lastOf}
 use Rattle.lists.specs.Tabulate.{tabulate, each, eachOf}
 use Rattle.days.specs.Days.{leapDay, monthLength, isDate, wordOf, dateOf, lengthOf, bitOn, badFrom, badCalendar, isOpen, lowestFrom, seekFrom, openAt, openAfter, openFrom, highestBelow, lastBelow, lastOpen}
 use Rattle.days.specs.Weekdays.{isWeekday, weekdayWord, weekdaysFrom, weekdays}
-use Rattle.records.specs.MessageRecords.{transferKind, closeKind, claimKind, size, recordBytes, claimValues, transferOf, firstLine, secondLine, headed, reads}
+use Rattle.records.specs.MessageRecords.{transferKind, closeKind, claimKind, size, recordBytes, claimValues, transferOf, firstLine, secondLine, header, headed, reads}
 use Rattle.securities.specs.Securities.{securityOf, typeOf, frequencyOf, rowOf, rowsFrom, rowsOf, isEmpty, isFilled, filledRows, goodRow, goodRows, goodSecurity, goodTables}
 use Rattle.securities.specs.Cases.{caseTables}
 use Rattle.tags.specs.ContractDateTag.{opener, same, tagged, openersFrom, openers, endIn, endFrom, isDigit, digitsAfter, digitsNumber, writesDate, tagHolding, tagAt, tagOf, contractDate, isSeveral, isUnended, isNotDate, editCauses}
@@ -34,7 +34,7 @@ use Rattle.history.specs.Results.{nextBook, nextBalances, resultFor, result, ru
 use Rattle.records.specs.MessageRecords.{answerKind}
 use Rattle.stream.specs.declared.Next.{Next}
 use Rattle.stream.specs.declared.Next.the-variants.{Waiting, Wrong, Record}
-use Rattle.stream.specs.Stream.{header, unready, next, callWith, callFor, answerBytes, emitted, emittedAll, onNext, added, split, callsOf, ending, streamBytes}
+use Rattle.stream.specs.Stream.{unready, next, callWith, callFor, answerBytes, emitted, emittedAll, onNext, added, split, callsOf, ending, streamBytes}
 use Rattle.stream.specs.Serving.{Serving, stopped, endedByFive, after, serveUpTo, serving}
 
 -- ---- bytes

@@ -6,9 +6,7 @@ use mathlib.Core.List.{List, [], _∷_, _++_, map}
 use Prim.Native.Nat.{ℕ, zero, suc, _*_}
 use lib.Dec.{eqb, ltb}
 use lib.ListN.{length, take, drop, replicate}
-use Rattle.lists.specs.Numbers.{numberOf}
-use Rattle.lists.specs.Fields.{part}
-use Rattle.records.specs.MessageRecords.{transferKind, closeKind, answerKind, size, recordBytes, reads}
+use Rattle.records.specs.MessageRecords.{transferKind, closeKind, answerKind, size, recordBytes, header, reads}
 use Rattle.claims.specs.Written.{claimSize}
 use Rattle.book.specs.declared.Book.{Book}
 use Rattle.history.specs.Calls.{Call, transfer, close}
@@ -17,10 +15,6 @@ use Rattle.stream.specs.declared.Next.{Next}
 use Rattle.stream.specs.declared.Next.the-variants.{Waiting, Wrong, Record}
 
 -- ---- what the input begins with
-
--- Whether the first four bytes are the length and kind of a record.
-unfoldable pub header : ℕ → ℕ → List ℕ → Bool
-header following kind s = eqb (numberOf (part 0 2 s)) following && eqb (numberOf (part 2 2 s)) kind
 
 -- Nothing yet, or, where input has not ended, the beginning of what may become a record.
 unfoldable pub unready : Bool → List ℕ → Bool
