@@ -14,7 +14,7 @@ use Rattle.lists.specs.Sums.{sum, sum-at}
 use Rattle.lists.specs.Tests.{and-both, below, below-at}
 use Rattle.book.specs.Book.{Position, position}
 use Rattle.book.specs.Soundness.{goodBalance, goodBalancesFrom, badBalances}
-use Rattle.judging.specs.Quick.{excessOf, selfWord}
+use Rattle.judging.specs.Quick.{excessOf, selfWord, ownPars}
 
 -- ---- one balance
 
@@ -28,14 +28,16 @@ excess-small par h = omega (arith, h)
 
 -- ---- the diagonal
 
-pub own-none : (balances : List ℕ) → below (λ i. eqb (getD balances (selfWord i) 0) 0) 0 ≡ true
-unfolding below
-own-none balances = refl
-
-pub own-step : (balances : List ℕ) (i : ℕ) → getD balances (256 * (i / 16) + 17 * (i % 16)) 0 ≡ 0
-    → below (λ i. eqb (getD balances (selfWord i) 0) 0) i ≡ true → below (λ i. eqb (getD balances (selfWord i) 0) 0) (i + 1) ≡ true
-unfolding below selfWord
-own-step balances i z e = rw (add-one i) (and-both (eq-eqb _ 0 z) e)
+own-at : (balances : List ℕ) (n : ℕ) → ownPars balances n ≡ 0 → (i : ℕ) → i < n → getD balances (selfWord i) 0 ≡ 0
+unfolding ownPars
+own-at balances zero e i h = absurd (not-suc-le-zero h)
+own-at balances (suc n) e i h = go (eqb i n) refl (λ l. own-at balances n (omega (arith, e)) i l)
+  where
+    go : (b : Bool) → eqb i n ≡ b → (i < n → getD balances (selfWord i) 0 ≡ 0) → getD balances (selfWord i) 0 ≡ 0
+    go true q before =
+        let here : getD balances (selfWord n) 0 ≡ 0 = omega (arith, e) in
+        subst (λ (k : ℕ). getD balances (selfWord k) 0 ≡ 0) (sym (eqb-true i n q)) here
+    go false q before = before (omega (arith, eqb-false i n q))
 
 -- the place of a word on the diagonal
 own-place : (s r : ℕ) → r < 16 → 256 * ((16 * s + r) / 16) + 17 * ((16 * s + r) % 16) ≡ 256 * s + 17 * r
@@ -57,7 +59,7 @@ good-of w (par ∷ pars) f =
     (good-of (suc w) pars (λ k h. subst (λ (n : ℕ). goodBalance (position n) (getD pars k 0) ≡ true) (add-suc w k ∙ sym (suc-add w k)) (f (suc k) (omega arith))))
 
 pub quick-good : (balances : List ℕ) → length balances ≡ 4096 → sum excessOf balances ≡ 0
-    → below (λ i. eqb (getD balances (selfWord i) 0) 0) 256 ≡ true → badBalances balances ≡ false
+    → ownPars balances 256 ≡ 0 → badBalances balances ≡ false
 unfolding badBalances goodBalance position selfWord
 quick-good balances l e d = ap not (good-of 0 balances each)
   where
@@ -67,7 +69,7 @@ quick-good balances l e d = ap not (good-of 0 balances each)
     own : (k : ℕ) → k < 4096 → k / 16 % 16 ≡ k % 16 → getD balances k 0 ≡ 0
     own k h q =
         let z : getD balances (256 * ((16 * (k / 256) + k % 16) / 16) + 17 * ((16 * (k / 256) + k % 16) % 16)) 0 ≡ 0 =
-        eqb-true _ 0 (below-at (λ i. eqb (getD balances (selfWord i) 0) 0) 256 d (16 * (k / 256) + k % 16) (small k h)) in
+        own-at balances 256 d (16 * (k / 256) + k % 16) (small k h) in
         subst (λ (j : ℕ). getD balances j 0 ≡ 0) (own-place (k / 256) (k % 16) (omega arith) ∙ own-word k q) z
 
     pick : (k : ℕ) → k < 4096 → (b : Bool) → eqb (k / 16 % 16) (k % 16) ≡ b → (not b || eqb (getD balances k 0) 0) ≡ true
@@ -79,18 +81,34 @@ quick-good balances l e d = ap not (good-of 0 balances each)
         let s = excess-none (getD balances k 0) (sum-at excessOf 0 balances e k h) in
         rw (zero-add k) (and-both (le-leb (getD balances k 0) 9000000000 s) (pick k (omega arith) (eqb (k / 16 % 16) (k % 16)) refl))
 
--- what the loop over the diagonal keeps
-pub record Apart (balances : List ℕ) (i : ℕ) : Type 0 where
+-- ---- the loop over the diagonal
+
+pub record Owning (balances : List ℕ) (total i : ℕ) : Type 0 where
   pub small : i ≤ 256
-  pub none : below (λ i. eqb (getD balances (selfWord i) 0) 0) i ≡ true
+  pub is : total ≡ ownPars balances i
+  pub bound : total ≤ 9000000000 * i
 
-pub apart-start : (balances : List ℕ) → Apart balances 0
-apart-start balances = record { small = omega arith; none = own-none balances }
+pub owning-start : (balances : List ℕ) → Owning balances 0 0
+unfolding ownPars
+owning-start balances = record { small = omega arith; is = refl; bound = omega arith }
 
-pub apart-step : {balances : List ℕ} {i : ℕ} → i < 256 → getD balances (256 * (i / 16) + 17 * (i % 16)) 0 ≡ 0 → Apart balances i → Apart balances (i + 1)
-apart-step {balances} {i} h z k = record { small = omega arith; none = own-step balances i z (k .none) }
+-- where no balance is too large, the next of the diagonal adds little
+pub own-small : (balances : List ℕ) (i : ℕ) → length balances ≡ 4096 → sum excessOf balances ≡ 0 → i < 256
+    → getD balances (256 * (i / 16) + 17 * (i % 16)) 0 ≤ 9000000000
+own-small balances i l e h = excess-none _ (sum-at excessOf 0 balances e (256 * (i / 16) + 17 * (i % 16)) (omega (arith, l)))
 
-pub apart-end : {balances : List ℕ} {i : ℕ} → 256 ≤ i → Apart balances i → below (λ i. eqb (getD balances (selfWord i) 0) 0) 256 ≡ true
-apart-end {balances} {i} h k =
+pub owning-step : {balances : List ℕ} {total i : ℕ} → Owning balances total i → i < 256
+    → getD balances (256 * (i / 16) + 17 * (i % 16)) 0 ≤ 9000000000
+    → {t : ℕ} → t ≡ total + getD balances (256 * (i / 16) + 17 * (i % 16)) 0 → Owning balances t (i + 1)
+unfolding ownPars selfWord
+owning-step {balances} {total} {i} k h m {t} e =
+    record {
+      small = omega arith;
+      is = e ∙ rw (add-one i, k .is) refl;
+      bound = omega (arith, e, m, k .bound);
+    }
+
+pub owning-end : {balances : List ℕ} {total i : ℕ} → Owning balances total i → 256 ≤ i → total ≡ ownPars balances 256
+owning-end {balances} {total} {i} k h =
     let e : i ≡ 256 = omega (arith, k .small) in
-    subst (λ (n : ℕ). below (λ i. eqb (getD balances (selfWord i) 0) 0) n ≡ true) e (k .none)
+    subst (λ (n : ℕ). total ≡ ownPars balances n) e (k .is)

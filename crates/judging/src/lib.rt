@@ -9,7 +9,7 @@ ghost use Rattle.lists.specs.Sums.{sum};
 ghost use Rattle.lists.specs.Tests.{below};
 ghost use Rattle.book.specs.Book.{position};
 ghost use Rattle.book.specs.Soundness.{badDay, goodBalance, badBalances, tableCauses, bookCauses, openingCauses};
-ghost use Rattle.judging.specs.Quick.{excessOf, selfWord};
+ghost use Rattle.judging.specs.Quick.{excessOf, ownPars};
 use days::Day;
 
 // The words of the calendar, the tables and the balances.
@@ -98,19 +98,18 @@ fn excesses(balances: &[u64]) -> u64
     total
 }
 
-// Whether no account has lent itself.
-fn is_apart(balances: &[u64]) -> bool
-    requires { ⌜ length (now balances) ≡ 4096 ⌝ }
-    ensures { λ r. ⌜ (r ≡ true → below (λ i. eqb (getD (now (balances .entry)) (selfWord i) 0) 0) 256 ≡ true) ⌝ }
+// What the accounts have lent themselves, added up; no balance is too large.
+fn own_pars(balances: &[u64]) -> u64
+    requires { ⌜ (length (now balances) ≡ 4096) × (sum excessOf (now balances) ≡ 0) ⌝ }
+    ensures { λ r. ⌜ r ≡ ownPars (now (balances .entry)) 256 ⌝ }
 {
+    let mut total: u64 = 0;
     let mut n: usize = 0;
     while n < 256 {
-        if balances[256 * (n / 16) + 17 * (n % 16)] != 0 {
-            return false;
-        }
+        total += balances[256 * (n / 16) + 17 * (n % 16)];
         n += 1;
     }
-    true
+    total
 }
 
 // Whether a balance is too large, or nonzero where an account would lend itself. Only where a quick test finds something are the words
@@ -122,7 +121,7 @@ fn bad_balances(balances: &[u64]) -> bool
     if excesses(balances) != 0 {
         return judge_balances(balances);
     }
-    if is_apart(balances) {
+    if own_pars(balances) == 0 {
         return false;
     }
     judge_balances(balances)

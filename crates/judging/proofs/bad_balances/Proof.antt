@@ -14,11 +14,11 @@ judge-balances-requires c κs = search needs
 returns : tie.Need-returns
 returns c = search needs
 
-is-apart-requires : tie.Need-is-apart-requires
-is-apart-requires c κs = search needs
+own-pars-requires : tie.Need-own-pars-requires
+own-pars-requires c κs = (c .before .before .before .pre, sym (c .before .excesses .ensures) ∙ c .if1 .left)
 
 returns-2 : tie.Need-returns-2
-returns-2 c = sym (quick-good _ (c .before .before .before .before .before .pre) (sym (c .before .before .before .excesses .ensures) ∙ c .before .before .if1 .left) (c .before .is-apart .ensures (c .if2 .taken)))
+returns-2 c = sym (quick-good _ (c .before .before .before .before .before .pre) (sym (c .before .before .before .excesses .ensures) ∙ c .before .before .if1 .left) (sym (c .before .own-pars .ensures) ∙ c .if2 .taken))
 
 judge-balances-requires-2 : tie.Need-judge-balances-requires-2
 judge-balances-requires-2 c κs = search needs
@@ -33,7 +33,7 @@ bad-balances-spec =
     excesses-requires
     judge-balances-requires
     returns
-    is-apart-requires
+    own-pars-requires
     returns-2
     judge-balances-requires-2
     returns-3)
