@@ -1,7 +1,7 @@
 -- What numbers 1 to 4 say where none of them applies: sound calendar, tables, day and balances.
 use mathlib.Core.Path.{_≡_, refl, sym, ap, _∙_, subst}
-use mathlib.Core.Bool.{Bool, true, false, not, _&&_, _||_}
-use mathlib.Core.List.{List, [], _∷_, _++_}
+use mathlib.Core.Bool.{true, false, not, _&&_, _||_}
+use mathlib.Core.List.{List, [], _∷_}
 use Prim.Native.Nat.{ℕ, zero, suc, _+_, _≤_, _<_}
 use native.Mathlib.Nat.{add-zero, zero-add, add-suc, suc-add, not-suc-le-zero, le-of-suc-le-suc}
 use native.Mathlib.Omega.{arith}
@@ -9,9 +9,9 @@ use lib.Dec.{eqb, leb}
 use lib.ListN.{length, getD}
 use borrow.Author.Tests.{eqb-true, eqb-false, eq-eqb, leb-true, not-false}
 use Rattle.lists.specs.Tests.{and-left, and-right, or-false-left, or-false-right}
-use Rattle.lists.specs.First.{Cause, NoneApplies, firstOf, numbered, appliesAt, cleared-by, none-applies}
+use Rattle.lists.specs.First.{NoneApplies, firstOf, numbered, appliesAt, cleared-by, none-applies}
 use Rattle.days.specs.Days.{badCalendar, isOpen, openAfter}
-use Rattle.days.proofs.OpenDays.{Kept, open-date}
+use Rattle.days.proofs.OpenDays.{Kept}
 use Rattle.securities.specs.Securities.{goodTables}
 use Rattle.book.specs.Book.{Position, InRange, word, position, balanceAt}
 use Rattle.book.specs.Soundness.{wrongLength, badDay, goodBalance, goodBalancesFrom, badBalances, tableCauses, bookCauses, openingCauses}

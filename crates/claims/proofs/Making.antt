@@ -1,18 +1,15 @@
 -- One claim as the code makes and stores it: its fields gathered, and its record put into a part of the buffer.
-use mathlib.Core.Path.{_≡_, sym, ap, _∙_}
+use mathlib.Core.Path.{_≡_}
 use mathlib.Core.List.{List, [], _++_}
 use Prim.Native.Nat.{ℕ, _+_, _-_, _*_, _≤_}
-use native.Mathlib.Nat.{add-zero}
-use native.Mathlib.Omega.{arith}
 use lib.ListN.{length, take, drop, getD}
-use lib.Seq.{getD-take, getD-drop}
 use Rattle.lists.specs.Put.{put}
 use Rattle.records.specs.declared.Cents.{Cents}
 use Rattle.records.specs.declared.Claim.{Claim}
 use Rattle.records.specs.declared.Wrote.{Wrote}
 use Rattle.records.specs.MessageRecords.{claimKind, claimValues, size, Writing, writing, wroteNumber}
 use Rattle.records.proofs.Answers.{stored-record}
-use Rattle.securities.specs.Securities.{securityOf, typeOf, rowOf}
+use Rattle.securities.specs.Securities.{rowOf}
 use Rattle.securities.proofs.Checks.{type-word}
 use Rattle.claims.specs.Amounts.{centsOn, amount, outcomeOf, releaseOf, slotOf, claimOn}
 use Rattle.claims.specs.Written.{claimBytes}

@@ -10,7 +10,7 @@ use borrow.Author.Tests.{eq-eqb, ne-eqb, le-leb, lt-leb}
 use Rattle.days.specs.Days.{bitOn, openAfter, openFrom}
 use Rattle.records.specs.declared.Claim.{Claim}
 use Rattle.securities.specs.Securities.{securityOf, typeOf, Row}
-use Rattle.claims.specs.Amounts.{ofInterest, ofPrincipal, centsOn, amount, outcomeOf, isLate, releaseOf, isEarly, slotOf, Parties, claimOn}
+use Rattle.claims.specs.Amounts.{centsOn, amount, outcomeOf, isLate, releaseOf, isEarly, slotOf, Parties, claimOn}
 
 -- ---- the amount rule
 

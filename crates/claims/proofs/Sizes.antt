@@ -1,26 +1,26 @@
 -- A claim on a sound row fits its record: amounts by the largest par and factor, release dates by the last date, the rest by their lists.
-use mathlib.Core.Path.{_≡_, refl}
+use mathlib.Core.Path.{_≡_}
 use mathlib.Core.Bool.{Bool, true, false, cond, _&&_}
-use mathlib.Core.List.{List, [], _∷_, _++_, map}
-use Prim.Native.Nat.{ℕ, zero, suc, _+_, _*_, _≤_, _<_}
-use native.Mathlib.Nat.{mul-le-mul, not-suc-le-zero}
+use mathlib.Core.List.{List, [], _∷_, map}
+use Prim.Native.Nat.{ℕ, zero, suc, _≤_, _<_}
+use native.Mathlib.Nat.{mul-le-mul}
 use native.Mathlib.Omega.{arith}
-use lib.Dec.{ltb, leb, eqb}
+use lib.Dec.{ltb, eqb}
 use lib.ListN.{getD}
 use borrow.Author.Tests.{ltb-true}
 use Rattle.lists.specs.Tests.{and-left, and-right}
 use Rattle.lists.specs.All.{all, all-both}
-use Rattle.lists.specs.Select.{select, lastOf, all-select, all-last}
+use Rattle.lists.specs.Select.{all-select, all-last}
 use Rattle.lists.specs.Tabulate.{each, eachOf}
-use Rattle.days.specs.Days.{bitOn, openAfter, openFrom, lastOpen}
+use Rattle.days.specs.Days.{bitOn, lastOpen}
 use Rattle.days.proofs.OpenDays.{Kept, after-small, from-small}
 use Rattle.records.specs.declared.Claim.{Claim}
 use Rattle.records.specs.MessageRecords.{claimKind, claimValues}
 use Rattle.records.specs.declared.Transfer.{Transfer}
 use Rattle.tags.specs.declared.Tag.{Tag}
 use Rattle.securities.specs.Securities.{securityOf, typeOf, Row, filledRows, goodRow}
-use Rattle.securities.proofs.Sound.{Good, good-row, Sound}
-use Rattle.claims.specs.Amounts.{ofInterest, ofPrincipal, centsOn, amount, outcomeOf, isLate, releaseOf, isEarly, slotOf, Parties, claimOn, failType, lendingType}
+use Rattle.securities.proofs.Sound.{good-row, Sound}
+use Rattle.claims.specs.Amounts.{centsOn, amount, outcomeOf, isLate, releaseOf, isEarly, slotOf, Parties, claimOn, failType, lendingType}
 use Rattle.claims.specs.Fails.{eligibleIn, eligible, Due, due, fails, dues, transferParties, transferClaims}
 use Rattle.claims.specs.Close.{crossed, loanParties, loanClaim, rowClaims, closeClaims, securityBalances, lenderBalances}
 use Rattle.claims.proofs.Written.{Fits, AllFit, all-fit-append}

@@ -1,16 +1,15 @@
 -- The claims of a close as its loops make them: one borrower, the lenders, the rows and the securities, one turn after the other.
 use mathlib.Core.Path.{_≡_, refl, sym, ap, ap₂, _∙_, subst}
-use mathlib.Core.Bool.{Bool, true, false, cond, not, _&&_}
+use mathlib.Core.Bool.{Bool, true, false, cond, _&&_}
 use mathlib.Core.List.{List, [], _∷_, _++_, append-nil, append-assoc}
-use Prim.Native.Nat.{ℕ, zero, suc, _+_, _-_, _*_, _≤_, _<_}
+use Prim.Native.Nat.{ℕ, zero, suc, _+_, _*_, _≤_, _<_}
 use native.Mathlib.Nat.{add-zero, add-suc, suc-add, zero-add}
-use native.Mathlib.Numerals.{add-one}
 use native.Mathlib.Omega.{arith}
-use lib.Dec.{ltb, leb, eqb}
-use lib.ListN.{length, getD, take, drop, length-append}
-use lib.Seq.{getD-take, getD-drop, drop-drop}
+use lib.Dec.{ltb}
+use lib.ListN.{length, getD, take, drop}
+use lib.Seq.{getD-take, drop-drop}
 use borrow.Author.Tests.{lt-ltb, le-ltb, le-leb, lt-leb, ltb-true, leb-true, ne-eqb}
-use Rattle.lists.specs.Tests.{and-left, and-right, cond-true, cond-false}
+use Rattle.lists.specs.Tests.{and-left, and-right}
 use Rattle.lists.specs.All.{all, all-at}
 use Rattle.lists.specs.Fields.{part, part-length, part-take}
 use Rattle.lists.specs.Select.{select, select-both, all-drop}
@@ -20,7 +19,7 @@ use Rattle.records.specs.declared.Claim.{Claim}
 use Rattle.securities.specs.Securities.{Row, rowOf, rowsFrom, rowsOf, securityOf, isEmpty, isFilled, filledRows, goodRow, goodTables}
 use Rattle.securities.proofs.Sound.{Good, good-row, sound-rows}
 use Rattle.claims.specs.Amounts.{Parties, claimOn}
-use Rattle.claims.specs.Close.{crosses, crossed, loanParties, loanClaim, securityBalances, lenderBalances, rowClaims, closeClaims}
+use Rattle.claims.specs.Close.{crosses, crossed, loanClaim, securityBalances, lenderBalances, rowClaims, closeClaims}
 use Rattle.claims.specs.Passes.{each-few}
 use Rattle.claims.specs.Turns.{small, Ready, Sound, lenderClaims, turnClaims, securityClaims}
 

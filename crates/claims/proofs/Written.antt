@@ -1,8 +1,7 @@
 -- Claims written to a buffer are read back, each of them, and leave the buffer's length and the bytes behind them.
-use mathlib.Core.Path.{_≡_, refl, sym, ap, ap₂, _∙_}
-use mathlib.Core.Bool.{Bool, true, cond}
+use mathlib.Core.Path.{_≡_, refl, ap, ap₂, _∙_}
 use mathlib.Core.List.{List, [], _∷_, _++_, append-assoc, map}
-use Prim.Native.Nat.{ℕ, _+_, _*_, _≤_, _<_}
+use Prim.Native.Nat.{ℕ, _*_, _≤_}
 use native.Mathlib.Omega.{arith}
 use lib.ListN.{length, drop, length-append, length-drop}
 use lib.Seq.{drop-at}
@@ -11,7 +10,7 @@ use Rattle.lists.specs.Fields.{Fit}
 use Rattle.records.specs.declared.Claim.{Claim}
 use Rattle.records.specs.declared.ReadClaim.{ReadClaim}
 use Rattle.records.specs.declared.ReadClaim.the-variants.{Is, Refused}
-use Rattle.records.specs.MessageRecords.{claimKind, claimValues, claimOf, reads}
+use Rattle.records.specs.MessageRecords.{claimKind, claimValues}
 use Rattle.records.proofs.RoundTrips.{claim-read-written}
 use Rattle.claims.specs.Written.{claimBytes, bytesOfAll, written, readClaim, readings, AllRead}
 use Rattle.claims.specs.Passes.{claim-length, all-length}

@@ -7,7 +7,7 @@ use lib.ListN.{getD}
 use Rattle.lists.specs.Select.{select, lastOf}
 use Rattle.records.specs.declared.Claim.{Claim}
 use Rattle.records.specs.declared.Transfer.{Transfer}
-use Rattle.records.specs.MessageRecords.{transferOf, firstLine, secondLine}
+use Rattle.records.specs.MessageRecords.{firstLine, secondLine}
 use Rattle.securities.specs.Securities.{securityOf, typeOf, frequencyOf, Row, filledRows}
 use Rattle.tags.specs.declared.Tag.{Tag}
 use Rattle.tags.specs.ContractDateTag.{tagOf, tagged, contractDate}

@@ -9,8 +9,8 @@ use Rattle.lists.specs.Fields.{part}
 use Rattle.lists.specs.Tabulate.{each, eachOf}
 use Rattle.days.specs.Days.{openAfter}
 use Rattle.records.specs.declared.Claim.{Claim}
-use Rattle.securities.specs.Securities.{Row, rowOf, securityOf, goodTables}
-use Rattle.claims.specs.Close.{crosses, crossed, loanParties, loanClaim, lenderBalances, rowClaims}
+use Rattle.securities.specs.Securities.{Row, securityOf, goodTables}
+use Rattle.claims.specs.Close.{crosses, crossed, loanParties, loanClaim, rowClaims}
 
 -- A balance that is not too large.
 unfoldable pub small : ℕ → Bool

@@ -9,7 +9,7 @@ use lib.Dec.{eqb}
 use lib.Pow.{shr-shr, shr-mod, pow-pos, pow-mono}
 use lib.Bits.{bitAnd, and-high, shifted-half, shifted-even}
 use lib.Count.{trailingZeros, leadingZeros, under, leading-top}
-use borrow.Author.Tests.{eqb-true, eq-eqb, ne-eqb}
+use borrow.Author.Tests.{eqb-true, eq-eqb}
 use Rattle.lists.specs.Tests.{below, below-at}
 use Rattle.days.specs.Days.{bitOn, lowestFrom, highestBelow}
 

@@ -1,7 +1,7 @@
 -- What a search finds, in other words. On a calendar that keeps its rule a day that is found is a date and open; it is the earliest
 -- from the start on, or the last of all; and where nothing is found, there is no open day.
-use mathlib.Core.Path.{_≡_, refl, sym, ap, ap₂, _∙_, subst, subst⁻¹}
-use mathlib.Core.Bool.{Bool, true, false, cond, _&&_, _||_}
+use mathlib.Core.Path.{_≡_, refl, sym, ap, _∙_, subst, subst⁻¹}
+use mathlib.Core.Bool.{Bool, true, false, cond}
 use mathlib.Core.List.{List, [], _∷_}
 use Prim.Native.Nat.{ℕ, zero, suc, _+_, _-_, _*_, _^_, _≤_, _<_}
 use native.Mathlib.Nat.{add-zero, zero-add, add-suc, suc-add, not-suc-le-zero, le-of-suc-le-suc, zero-lt-suc, lt-of-not-le, lt-of-lt-of-le, eq-or-lt-of-le}
@@ -17,7 +17,7 @@ use Rattle.days.specs.Days.{lastDate, dayOf, isDate, wordOf, dateOf, len
 use Rattle.days.specs.declared.Date.{Date}
 use Rattle.days.specs.declared.Day.{Day}
 use Rattle.days.specs.declared.Day.the-variants.{On, Nothing}
-use Rattle.days.proofs.Parts.{Parts, parts, word-lt, date-parts, date-made, made-word, made-day, date-order, order-date, date-positive}
+use Rattle.days.proofs.Parts.{parts, word-lt, date-parts, date-made, made-word, made-day, date-order, order-date, date-positive}
 use Rattle.days.proofs.Bits.{Lowest, lowest, bit-lt, Highest, highest, positive}
 use Rattle.days.proofs.Lengths.{word-length-le}
 

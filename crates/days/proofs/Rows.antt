@@ -1,9 +1,9 @@
 -- Computed rows: the Monday-to-Friday calendar at month ends, year ends, leap days and its last days, numbers that are no dates, a
 -- calendar with no open day, and calendars that break the rule.
 use mathlib.Core.Path.{_≡_, refl}
-use mathlib.Core.Bool.{Bool, true, false, cond, not, _&&_}
+use mathlib.Core.Bool.{Bool, true, cond, not, _&&_}
 use mathlib.Core.List.{List, [], _∷_}
-use Prim.Native.Nat.{ℕ, _+_, _^_}
+use Prim.Native.Nat.{ℕ, _^_}
 use lib.Dec.{eqb}
 use lib.ListN.{set, replicate, length}
 use Rattle.lists.specs.All.{all}

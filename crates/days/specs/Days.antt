@@ -1,11 +1,10 @@
 -- Document 01, section Days: dates, the calendar and its open days. A date is its number yyyymmdd, so date order is number order.
 -- Where there is no day, the number is 0, which is no date.
-use mathlib.Core.Bool.{Bool, true, false, cond, _&&_, _||_}
+use mathlib.Core.Bool.{Bool, false, cond, _&&_, _||_}
 use mathlib.Core.List.{List, [], _∷_}
 use Prim.Native.Nat.{ℕ, zero, suc, _+_, _-_, _*_, _/_, _%_, _^_}
 use lib.Dec.{eqb, ltb, leb}
-use lib.ListN.{length, drop, getD}
-use Rattle.days.specs.declared.Date.{Date}
+use lib.ListN.{drop, getD}
 use Rattle.days.specs.declared.Checked.{Checked}
 use Rattle.days.specs.declared.Checked.the-variants.{Is, Not}
 use Rattle.days.specs.declared.Day.{Day}

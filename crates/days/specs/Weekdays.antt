@@ -1,7 +1,7 @@
 -- The calendar of document 01's cases: Monday to Friday are open, each day from January 2000 to December 2039.
 use mathlib.Core.Bool.{Bool, cond}
 use mathlib.Core.List.{List, [], _∷_}
-use Prim.Native.Nat.{ℕ, zero, suc, _+_, _*_, _%_, _^_}
+use Prim.Native.Nat.{ℕ, zero, suc, _+_, _*_, _%_}
 use lib.Dec.{ltb}
 use Rattle.days.specs.Days.{lengthOf, calendarWords}
 

@@ -1,15 +1,14 @@
 -- The claims on the recent rows of a transfer are its claims, and what these ask is there.
-use mathlib.Core.Path.{_≡_, refl, sym, ap, _∙_, subst}
+use mathlib.Core.Path.{_≡_, refl, sym, _∙_, subst}
 use mathlib.Core.Bool.{Bool, true, false, cond, _&&_}
 use mathlib.Core.Logic.{_⊎_, inl, inr, ⊎-elim}
 use mathlib.Core.List.{List, []}
-use Prim.Native.Nat.{ℕ, _+_, _-_, _≤_, _<_}
+use Prim.Native.Nat.{ℕ, _+_, _-_, _<_}
 use native.Mathlib.Omega.{arith}
 use lib.Dec.{eqb}
 use lib.ListN.{length}
 use borrow.Author.Tests.{eqb-true, eqb-false, eq-eqb, ne-eqb}
 use Rattle.lists.specs.Tabulate.{each}
-use Rattle.records.specs.declared.Claim.{Claim}
 use Rattle.records.specs.declared.Transfer.{Transfer}
 use Rattle.securities.specs.Securities.{securityOf, typeOf, frequencyOf, goodTables}
 use Rattle.tags.specs.declared.Tag.{Tag}

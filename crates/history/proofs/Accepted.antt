@@ -1,25 +1,23 @@
 -- What an accepted call says of its book, balances and message: no cause of its table applies, taken by number.
 use mathlib.Core.Path.{_≡_, refl}
 use mathlib.Core.Logic.{_↔_}
-use mathlib.Core.Bool.{Bool, true, false, cond, not, _||_}
-use mathlib.Core.List.{List, [], _∷_, _++_}
+use mathlib.Core.Bool.{Bool, true, false, cond}
+use mathlib.Core.List.{List}
 use Prim.Native.Nat.{ℕ, _*_, _≤_, _<_}
-use native.Mathlib.Omega.{arith}
-use lib.Dec.{ltb, leb, eqb}
 use lib.ListN.{length}
 use borrow.Author.Tests.{leb-false, ltb-false, not-false, eqb-false}
 use Rattle.lists.specs.Tests.{or-false-left, or-false-right}
-use Rattle.lists.specs.First.{Cause, NoneApplies, firstOf, numbered, appliesAt, none-applies, accepted, cleared-by, none-left}
+use Rattle.lists.specs.First.{NoneApplies, numbered, appliesAt, none-applies, accepted, cleared-by, none-left}
 use Rattle.days.specs.Days.{openAfter}
 use Rattle.records.specs.declared.Transfer.{Transfer}
 use Rattle.records.specs.MessageRecords.{transferKind, closeKind, transferOf, reads}
 use Rattle.tags.specs.ContractDateTag.{editCauses}
 use Rattle.book.specs.declared.Book.{Book}
-use Rattle.book.specs.Book.{Position, InRange}
+use Rattle.book.specs.Book.{InRange}
 use Rattle.book.specs.Loans.{Change, unchanged, increase, decrease, increasing, decreasing, bySender, byReceiver, changeOf, aboveBalance, loanCauses}
 use Rattle.book.specs.Soundness.{tableCauses, bookCauses, openingCauses}
 use Rattle.book.proofs.Judged.{SoundBook, sound-book, SoundOpening, sound-opening, numbered-opening}
-use Rattle.history.specs.Calls.{Arguments, Call, transfer, close, bufferOf, claimsOf}
+use Rattle.history.specs.Calls.{Arguments, Call, transfer, close, claimsOf}
 use Rattle.history.specs.Causes.{recordCauses, outOfRange, fieldCauses, countCauses, lastDayCauses, roomCauses, transferCauses, callCauses, causes, numberFor, openingNumber}
 
 -- ---- the tables' numbers

@@ -1,19 +1,18 @@
 -- What a call's code shows at each of its returns: a refused call and an accepted one, by the call's number, and that number from
 -- the causes that code has judged.
-use mathlib.Core.Path.{_≡_, refl, sym, ap, ap₂, _∙_, subst}
-use mathlib.Core.List.{List, _++_}
+use mathlib.Core.Path.{_≡_, refl, sym, ap, _∙_}
+use mathlib.Core.List.{List}
 use Prim.Native.Nat.{ℕ, zero, suc}
 use lib.ListN.{length, replicate}
 use Rattle.lists.specs.First.{firstOf, none-applies, hit-group, next-group}
 use Rattle.days.specs.Days.{firstDate}
 use Rattle.claims.specs.Written.{written}
 use Rattle.book.specs.declared.Book.{Book}
-use Rattle.book.specs.declared.Done.{Done}
 use Rattle.book.specs.Soundness.{bookCauses, openingCauses}
 use Rattle.book.proofs.Judged.{numbered-book}
 use Rattle.history.specs.Calls.{Call, bufferOf, claimsOf}
 use Rattle.history.specs.Causes.{callCauses, causes, numberFor, openingNumber}
-use Rattle.history.specs.Results.{Result, nextBook, nextBalances, resultFor, left, result, Opened, leftOpen, openedFor, opened}
+use Rattle.history.specs.Results.{nextBook, nextBalances, resultFor, left, result, leftOpen, openedFor, opened}
 
 module _ (calendar tables : List ℕ) (book : Book) (balances : List ℕ) (call : Call) where
   -- ---- the number

@@ -1,11 +1,11 @@
 -- The claims of a call pay what the call adds to what the history owes. A transfer's claims are a sum over its eligible rows; of a
 -- close's claims only those of one security, lender and borrower count between two parties.
-use mathlib.Core.Path.{_≡_, refl, sym, ap, ap₂, _∙_, subst}
+use mathlib.Core.Path.{_≡_, refl, sym, ap, _∙_, subst}
 use mathlib.Core.Logic.{_≢_}
 use mathlib.Core.Bool.{Bool, true, false, cond, _&&_}
-use mathlib.Core.List.{List, [], _∷_, _++_, map}
-use Prim.Native.Nat.{ℕ, zero, suc, _+_, _*_, _<_}
-use native.Mathlib.Nat.{zero-add, add-zero, zero-mul}
+use mathlib.Core.List.{List, [], _∷_, map}
+use Prim.Native.Nat.{ℕ, _<_}
+use native.Mathlib.Nat.{zero-mul}
 use native.Mathlib.Omega.{arith}
 use native.Mathlib.Decide.{decLt}
 use lib.Dec.{ltb, eqb}
@@ -14,7 +14,6 @@ use borrow.Author.Tests.{ltb-false}
 use Rattle.lists.specs.Sums.{sum, sum-one, sum-map, sum-equal, sum-zero, sum-cond, cond-zero}
 use Rattle.lists.specs.Tabulate.{each, eachOf, sum-eachOf, sum-each-none, sum-each-one}
 use Rattle.records.specs.declared.Claim.{Claim}
-use Rattle.records.specs.declared.ReadClaim.{ReadClaim}
 use Rattle.records.specs.declared.ReadClaim.the-variants.{Is}
 use Rattle.records.specs.MessageRecords.{transferOf}
 use Rattle.securities.specs.Securities.{Row}
@@ -22,7 +21,7 @@ use Rattle.claims.specs.Amounts.{Part, ofInterest, ofPrincipal, centsOn, amount
 use Rattle.claims.specs.Fails.{messageTag, eligible, Due, due, fails, dues, transferParties, transferClaims}
 use Rattle.claims.specs.Close.{crossed, loanParties, loanClaim, securityBalances, lenderBalances, rowClaims, closeClaims}
 use Rattle.claims.proofs.Crossed.{balance-word}
-use Rattle.book.specs.Book.{Position, InRange, word, balanceAt}
+use Rattle.book.specs.Book.{Position, word, balanceAt}
 use Rattle.book.proofs.Words.{three, three-refl}
 use Rattle.history.specs.Owed.{amounts, isFailed}
 use Rattle.history.specs.Statement.{centsIn, counts, paidIn, paid}

@@ -1,6 +1,6 @@
 -- Computed rows: the number of a call where two neighbouring causes apply, each by its own, and where none does, at full size.
 use mathlib.Core.Path.{_≡_, refl}
-use mathlib.Core.Bool.{Bool, true, false, _&&_}
+use mathlib.Core.Bool.{Bool, true, _&&_}
 use mathlib.Core.List.{List, [], _∷_, _++_}
 use Prim.Native.Nat.{ℕ, _+_, _/_, _%_}
 use lib.Dec.{eqb}
@@ -17,7 +17,7 @@ use Rattle.lists.specs.Tabulate.{tabulate, each, eachOf}
 use Rattle.days.specs.Days.{leapDay, monthLength, isDate, wordOf, dateOf, lengthOf, bitOn, badFrom, badCalendar, isOpen, lowestFrom, seekFrom, openAt, openAfter, openFrom, highestBelow, lastBelow, lastOpen}
 use Rattle.days.specs.Weekdays.{isWeekday, weekdayWord, weekdaysFrom, weekdays}
 use Rattle.records.specs.MessageRecords.{transferKind, closeKind, claimKind, size, recordBytes, claimValues, transferOf, firstLine, secondLine, header, headed, reads}
-use Rattle.securities.specs.Securities.{securityOf, typeOf, frequencyOf, Row, rowOf, rowsFrom, rowsOf, isEmpty, isFilled, filledRows, goodRow, goodRows, goodSecurity, goodTables}
+use Rattle.securities.specs.Securities.{securityOf, typeOf, frequencyOf, rowOf, rowsFrom, rowsOf, isEmpty, isFilled, filledRows, goodRow, goodRows, goodSecurity, goodTables}
 use Rattle.securities.specs.Cases.{caseTables}
 use Rattle.tags.specs.ContractDateTag.{opener, same, tagged, openersFrom, openers, endIn, endFrom, isDigit, digitsAfter, digitsNumber, writesDate, tagHolding, tagAt, tagOf, contractDate, isSeveral, isUnended, isNotDate, editCauses}
 use Rattle.claims.specs.Amounts.{centsOn, amount, outcomeOf, isLate, releaseOf, isEarly, slotOf, claimOn}

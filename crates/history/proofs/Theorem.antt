@@ -1,7 +1,7 @@
 -- Every list of calls from an accepted opening: the run follows the ledger, and what the ledger's records pay is what it owes.
 use mathlib.Core.Path.{_≡_, refl, sym, ap, _∙_, subst₂}
 use mathlib.Core.Logic.{_≢_}
-use mathlib.Core.Bool.{Bool, true, false}
+use mathlib.Core.Bool.{Bool, true}
 use mathlib.Core.List.{List, [], _∷_, _++_}
 use Prim.Native.Nat.{ℕ, zero, suc, _+_, _*_, _≤_}
 use native.Mathlib.Nat.{zero-add}
@@ -20,13 +20,13 @@ use Rattle.claims.specs.Written.{readings, AllRead}
 use Rattle.claims.proofs.Crossed.{balance-word}
 use Rattle.claims.proofs.Eligible.{rising-dues}
 use Rattle.claims.proofs.Written.{AllFit, readings-written, all-read, all-read-append, length-written, behind-written}
-use Rattle.claims.proofs.Sizes.{SmallParties, fit-transfer, fit-close}
+use Rattle.claims.proofs.Sizes.{fit-transfer, fit-close}
 use Rattle.book.specs.declared.Book.{Book}
 use Rattle.book.specs.Book.{Position, InRange, balanceAt, layout, word}
 use Rattle.book.proofs.Words.{length-layout, read, is-layout, word-bound}
-use Rattle.book.proofs.Judged.{SoundBook, kept}
+use Rattle.book.proofs.Judged.{kept}
 use Rattle.history.specs.Calls.{Call, transfer, close, bufferOf, claimsOf}
-use Rattle.history.specs.Causes.{numberFor, causes, openingNumber}
+use Rattle.history.specs.Causes.{numberFor, openingNumber}
 use Rattle.history.specs.Results.{Run, run, openedFor, opened, runFrom}
 use Rattle.history.specs.Ledger.{Entry, Ledger, started, transfers, increases, decreases, parLent, bookOf, balancesOf, keep, numberOn, answerFor, judged}
 use Rattle.history.specs.Owed.{amounts, lentBy, owedBy, owed}

@@ -1,5 +1,5 @@
 -- The calls of a list, their arguments, and the claims that they give. All calls of a list get the same calendar and tables.
-use mathlib.Core.List.{List, [], _∷_}
+use mathlib.Core.List.{List}
 use Prim.Native.Nat.{ℕ, _+_}
 use Rattle.records.specs.declared.Claim.{Claim}
 use Rattle.book.specs.declared.Book.{Book}

@@ -17,7 +17,7 @@ use Rattle.claims.specs.Written.{claimSize}
 use Rattle.book.specs.declared.Book.{Book}
 use Rattle.book.specs.Loans.{loanCauses}
 use Rattle.book.specs.Soundness.{bookCauses, openingCauses}
-use Rattle.history.specs.Calls.{Arguments, Call, transfer, close, bufferOf, claimsOf}
+use Rattle.history.specs.Calls.{Call, transfer, close, claimsOf}
 
 -- The record is cut short, or its length or kind is wrong for the call: number 5.
 unfoldable pub recordCauses : Kind → List ℕ → List Cause

@@ -1,18 +1,17 @@
 -- The quick test of the balances: what its loops keep, and that balances which pass it are good.
 use mathlib.Core.Path.{_≡_, refl, sym, ap, _∙_, subst}
-use mathlib.Core.Bool.{Bool, true, false, not, _&&_, _||_}
+use mathlib.Core.Bool.{Bool, true, false, not, _||_}
 use mathlib.Core.List.{List, [], _∷_}
 use Prim.Native.Nat.{ℕ, zero, suc, _+_, _*_, _/_, _%_, _≤_, _<_}
-use native.Mathlib.Nat.{add-zero, zero-add, add-suc, suc-add, not-suc-le-zero, le-of-suc-le-suc}
+use native.Mathlib.Nat.{add-zero, zero-add, add-suc, suc-add, not-suc-le-zero}
 use native.Mathlib.Numerals.{add-one}
 use native.Mathlib.Omega.{arith}
-use lib.Dec.{eqb, leb}
-use lib.ListN.{length, drop, getD, drop-of-length-le}
-use lib.Seq.{drop-cons}
-use borrow.Author.Tests.{eqb-true, eqb-false, eq-eqb, ne-eqb, le-leb}
+use lib.Dec.{eqb}
+use lib.ListN.{length, getD}
+use borrow.Author.Tests.{eqb-true, eqb-false, eq-eqb, le-leb}
 use Rattle.lists.specs.Sums.{sum, sum-at}
-use Rattle.lists.specs.Tests.{and-both, below, below-at}
-use Rattle.book.specs.Book.{Position, position}
+use Rattle.lists.specs.Tests.{and-both}
+use Rattle.book.specs.Book.{position}
 use Rattle.book.specs.Soundness.{goodBalance, goodBalancesFrom, badBalances}
 use Rattle.judging.specs.Quick.{excessOf, selfWord, ownPars}
 

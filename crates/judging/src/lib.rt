@@ -2,11 +2,9 @@
 // Calendar, tables and balances are taken in any length where a function gives number 1.
 ghost use mathlib.Core.Path.{_≡_};
 ghost use mathlib.Core.Bool.{true};
-ghost use lib.Dec.{eqb};
-ghost use lib.ListN.{length, getD};
+ghost use lib.ListN.{length};
 ghost use Rattle.lists.specs.First.{firstOf};
 ghost use Rattle.lists.specs.Sums.{sum};
-ghost use Rattle.lists.specs.Tests.{below};
 ghost use Rattle.book.specs.Book.{position};
 ghost use Rattle.book.specs.Soundness.{badDay, goodBalance, badBalances, tableCauses, bookCauses, openingCauses};
 ghost use Rattle.judging.specs.Quick.{excessOf, ownPars};

@@ -1,9 +1,9 @@
 -- Runs of numbers in bytes, each in a width of its own, and reading them back: the laws hold for every list of widths.
 use mathlib.Core.Path.{_≡_, refl, sym, ap, ap₂, _∙_, subst, subst⁻¹}
 use mathlib.Core.List.{List, [], _∷_, _++_, append-assoc}
-use Prim.Native.Nat.{ℕ, zero, suc, _+_, _-_, _^_, _≤_, _<_}
+use Prim.Native.Nat.{ℕ, zero, suc, _+_, _^_, _≤_, _<_}
 use native.Mathlib.Omega.{arith}
-use lib.ListN.{length, take, drop, getD, length-append, length-take, length-drop}
+use lib.ListN.{length, take, drop, length-append, length-take, length-drop}
 use lib.Seq.{drop-append-seam, drop-drop, take-take, getD-drop, getD-take, take-at, take-add}
 use Rattle.lists.specs.Numbers.{bytesOf, numberOf, Bytes, bytes-length, number-bytes, bytes-number, number-fits}
 

@@ -1,12 +1,11 @@
 -- Numbers in bytes, lowest byte first, and the bytes' number again: one law each way for every width.
 use mathlib.Core.Path.{_≡_, refl, sym, ap, ap₂, _∙_, subst}
-use mathlib.Core.List.{List, [], _∷_, _++_}
+use mathlib.Core.List.{List, [], _∷_}
 use Prim.Native.Nat.{ℕ, zero, suc, _+_, _*_, _/_, _%_, _^_, _<_}
 use native.Mathlib.Nat.{add-comm, pow-suc, div-lt-iff-lt-mul, div-add-mod', zero-lt-suc}
 use native.Mathlib.Omega.{arith}
 use lib.Arith.{digits-lt, digits-div, digits-mod, lt-one}
 use lib.ListN.{length, getD}
-use lib.Seq.{getD-take, getD-drop}
 
 -- n in w bytes
 unfoldable pub bytesOf : ℕ → ℕ → List ℕ

@@ -10,7 +10,6 @@ use Rattle.lists.specs.Numbers.{bytesOf, numberOf}
 use Rattle.lists.specs.Fields.{encode, decode}
 use Rattle.records.specs.declared.Transfer.{Transfer}
 use Rattle.records.specs.declared.Claim.{Claim}
-use Rattle.records.specs.declared.Answer.{Answer}
 use Rattle.records.specs.MessageRecords.{Kind, transferKind, closeKind, claimKind, answerKind, size, recordBytes}
 use Rattle.records.specs.MessageRecords.{transferValues, claimValues, transferOf, claimOf, answerOf}
 use Rattle.records.specs.MessageRecords.{header, headed, reads, reading, writing, firstLine, secondLine}

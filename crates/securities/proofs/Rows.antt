@@ -1,6 +1,6 @@
 -- Computed rows: the cases' tables of 1,824 words, each rule kept and broken by one word.
 use mathlib.Core.Path.{_≡_, refl}
-use mathlib.Core.Bool.{Bool, true, false, cond, not, _&&_}
+use mathlib.Core.Bool.{Bool, true, cond, not, _&&_}
 use mathlib.Core.List.{List, [], _∷_, _++_}
 use Prim.Native.Nat.{ℕ}
 use lib.Dec.{eqb}
@@ -10,7 +10,7 @@ use Rattle.lists.specs.All.{all}
 use Rattle.lists.specs.Select.{select}
 use Rattle.days.specs.Days.{leapDay, monthLength, isDate, lengthOf, dateOf, bitOn, highestBelow, lastBelow, lastOpen}
 use Rattle.days.specs.Weekdays.{isWeekday, weekdayWord, weekdaysFrom, weekdays}
-use Rattle.securities.specs.Securities.{securityOf, typeOf, frequencyOf, Row, rowOf, rowsFrom, rowsOf, isEmpty, isFilled, filledRows, goodRow, goodRows, goodSecurity, goodTables}
+use Rattle.securities.specs.Securities.{securityOf, typeOf, frequencyOf, rowOf, rowsFrom, rowsOf, isEmpty, isFilled, filledRows, goodRow, goodRows, goodSecurity, goodTables}
 use Rattle.securities.specs.Cases.{caseTables}
 
 -- a word of the tables, what is put there, and whether the tables are then good, as 1 or 0

@@ -1,18 +1,17 @@
 -- What sound tables say of the filled rows of a security: each row keeps its rules, and Record and Beneficiary Dates rise.
-use mathlib.Core.Path.{_≡_, refl, sym, ap, _∙_}
+use mathlib.Core.Path.{_≡_, refl}
 use mathlib.Core.Bool.{Bool, true, false, cond, not, _&&_}
 use mathlib.Core.List.{List, [], _∷_}
-use Prim.Native.Nat.{ℕ, zero, suc, _+_, _*_, _≤_, _<_}
-use native.Mathlib.Nat.{add-zero, add-suc, suc-add}
+use Prim.Native.Nat.{ℕ, zero, suc, _+_, _≤_, _<_}
 use native.Mathlib.Omega.{arith}
 use lib.Dec.{eqb, ltb, leb}
-use lib.ListN.{length, getD, drop}
-use borrow.Author.Tests.{ltb-true, lt-ltb, leb-true, eqb-true, eq-eqb}
+use lib.ListN.{getD, drop}
+use borrow.Author.Tests.{ltb-true, lt-ltb, leb-true}
 use Rattle.lists.specs.Tests.{and-left, and-right, and-both, below-at}
-use Rattle.lists.specs.All.{all, all-weaken, all-at}
+use Rattle.lists.specs.All.{all, all-weaken}
 use Rattle.lists.specs.Select.{select, rising, all-select, all-drop}
 use Rattle.days.specs.Days.{isDate, lastOpen}
-use Rattle.securities.specs.Securities.{securityOf, typeOf, frequencyOf, Row, rowOf, rowsFrom, rowsOf, isEmpty, isFilled, filledRows, largestFactor, goodRow, goodRows, goodSecurity, goodTables}
+use Rattle.securities.specs.Securities.{securityOf, typeOf, frequencyOf, Row, rowOf, rowsFrom, rowsOf, isEmpty, isFilled, filledRows, goodRow, goodRows, goodSecurity, goodTables}
 
 -- ---- a row's rules, each by itself
 

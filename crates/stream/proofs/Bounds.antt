@@ -1,8 +1,8 @@
 -- A run works no more than its input and writes no more than its output.
-use mathlib.Core.Path.{_≡_, refl, sym, ap, _∙_}
+use mathlib.Core.Path.{_≡_, refl, ap}
 use mathlib.Core.Bool.{Bool, true, false, cond}
 use mathlib.Core.List.{List, []}
-use Prim.Native.Nat.{ℕ, zero, suc, _+_, _-_, _≤_}
+use Prim.Native.Nat.{ℕ, zero, suc, _-_, _≤_}
 use native.Mathlib.Omega.{arith}
 use lib.Dec.{ltb}
 use lib.ListN.{length, take, drop, length-append}
@@ -15,7 +15,7 @@ use Rattle.stream.specs.declared.Next.{Next}
 use Rattle.stream.specs.declared.Next.the-variants.{Waiting, Wrong, Record}
 use Rattle.stream.specs.declared.Served.{Served}
 use Rattle.stream.specs.Stream.{next, onNext, callFor, emitted}
-use Rattle.stream.specs.Serving.{Serving, stopped, endedByFive, after, serveUpTo, serving, Leaves, leavesFor, leftServed, leaves}
+use Rattle.stream.specs.Serving.{stopped, endedByFive, after, serveUpTo, serving, Leaves, leavesFor, leftServed, leaves}
 use Rattle.stream.proofs.Records.{answer-length}
 use Rattle.stream.proofs.Runs.{emitted-small}
 use Rattle.stream.proofs.Cuts as cuts

@@ -1,6 +1,6 @@
 -- Every place that is read and written is one of the buffer.
 use mathlib.Core.Path.{_≡_}
-use Prim.Native.Nat.{_-_, _≤_}
+use Prim.Native.Nat.{_-_}
 use lib.ListN.{length}
 use borrow.Author.Needs.{needs}
 use Rattle.claimrun.proofs.move_down.Statement.{statement}

@@ -1,6 +1,5 @@
 -- The tries end, and the buffer keeps its length.
 use mathlib.Core.Path.{_≡_}
-use Prim.Native.Nat.{_-_, _≤_}
 use lib.ListN.{length}
 use borrow.Author.Needs.{needs}
 use Rattle.claimrun.proofs.read_some.Statement.{statement}

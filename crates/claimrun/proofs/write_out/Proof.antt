@@ -1,5 +1,4 @@
 -- Bytes are written from the start on, and never past the end.
-use mathlib.Core.Path.{_≡_}
 use Prim.Native.Nat.{_-_, _≤_}
 use lib.ListN.{length}
 use borrow.Author.Needs.{needs}

@@ -1,6 +1,4 @@
 -- A date's bit is read from its month's word; what is no date is not open.
-use mathlib.Core.Path.{_≡_, sym, _∙_}
-use mathlib.Core.Bool.{_&&_}
 use Rattle.days.specs.Days.{isOpen, bitOn}
 use Rattle.days.proofs.Parts.{parts, is-date, not-date}
 use borrow.Author.Needs.{needs}

@@ -1,9 +1,6 @@
 -- The loop keeps that the words below m decide; the zeros above the top bit give the day.
-use mathlib.Core.Path.{_≡_, sym, ap, _∙_}
-use mathlib.Core.Logic.{_≢_}
-use Prim.Native.Nat.{ℕ, _-_, _<_}
-use native.Mathlib.Nat.{zero-lt-suc}
-use lib.ListN.{getD}
+use mathlib.Core.Path.{ap, _∙_}
+use Prim.Native.Nat.{_-_}
 use Rattle.days.specs.Days.{asDay}
 use Rattle.days.proofs.Bits.{highest-led, positive}
 use Rattle.days.proofs.Months.{Falling, fall-start, fall-here, fall-next, fall-end}

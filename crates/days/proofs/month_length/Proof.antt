@@ -1,5 +1,5 @@
 -- Each arm gives the length that the definition has written out for its months.
-use mathlib.Core.Path.{_≡_, sym, ap}
+use mathlib.Core.Path.{sym, ap}
 use mathlib.Core.Logic.{⊎-elim, inl, inr}
 use borrow.Author.Tests.{eq-eqb, ne-eqb}
 use Rattle.days.specs.Days.{monthLength}

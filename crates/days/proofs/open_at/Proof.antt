@@ -1,5 +1,5 @@
 -- The search starts at the date's own bit, past the bits to skip; what is no date has no day.
-use mathlib.Core.Path.{_≡_, ap, _∙_}
+use mathlib.Core.Path.{ap, _∙_}
 use Rattle.days.specs.Days.{asDay, openAt}
 use Rattle.days.proofs.Parts.{parts, is-date, not-date}
 use borrow.Author.Needs.{needs}

@@ -1,5 +1,4 @@
 -- The three cases of a row: on or before the day, after the next open day, crossed.
-use mathlib.Core.Path.{sym}
 use Rattle.securities.specs.Securities.{rowOf}
 use Rattle.claims.specs.Passes.{passed-nothing}
 use Rattle.claims.proofs.Turns.{turn-early, turn-late, turn-crossed, seven-words, crossed-ready}

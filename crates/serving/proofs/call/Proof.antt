@@ -1,5 +1,5 @@
 -- A message that reads as a close is closed, any other is worked as a transfer; 5 is a transfer's answer to what does not read.
-use mathlib.Core.Path.{sym, ap, _∙_}
+use mathlib.Core.Path.{_∙_}
 use Rattle.records.proofs.Answers.{close-is, close-not}
 use Rattle.stream.proofs.Records.{calls-close, calls-transfer}
 use borrow.Author.Needs.{needs}

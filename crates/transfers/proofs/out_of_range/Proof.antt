@@ -1,5 +1,5 @@
 -- Each test of the code is the next test of the definition.
-use mathlib.Core.Path.{_≡_, sym, _∙_}
+use mathlib.Core.Path.{sym, _∙_}
 use borrow.Author.Tests.{eq-eqb, ne-eqb, lt-ltb, le-ltb}
 use Rattle.history.specs.Causes.{outOfRange}
 use Rattle.transfers.proofs.Numbers.{inside}
