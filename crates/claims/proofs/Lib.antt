@@ -5,6 +5,7 @@ pub mod Written
 pub mod Sizes
 pub mod Rows
 pub mod Making
+pub mod TableRows
 pub mod Reached
 pub mod RowLoops
 pub mod Turns

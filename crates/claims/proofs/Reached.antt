@@ -3,22 +3,21 @@
 use mathlib.Core.Path.{_≡_, refl, sym, ap, ap₂, _∙_}
 use mathlib.Core.Bool.{Bool, true, false, cond, _&&_}
 use mathlib.Core.List.{List, [], _∷_, _++_, append-nil, append-assoc, map}
-use Prim.Native.Nat.{ℕ, zero, suc, _+_, _-_, _*_, _≤_, _<_}
-use native.Mathlib.Nat.{add-zero, zero-add, not-suc-le-zero, le-of-suc-le-suc, sub-zero, zero-sub}
+use Prim.Native.Nat.{ℕ, zero, suc, _+_, _-_, _≤_, _<_}
+use native.Mathlib.Nat.{not-suc-le-zero, le-of-suc-le-suc, sub-zero, zero-sub}
 use native.Mathlib.Omega.{arith}
 use lib.Dec.{eqb, ltb, leb}
 use lib.ListN.{length, take, drop, getD, length-drop, length-map}
-use lib.Seq.{take-nil, take-suc, drop-drop, getD-take, getD-drop, length-take-le}
+use lib.Seq.{take-nil, take-suc, getD-drop, length-take-le}
 use borrow.Author.Tests.{ltb-true, leb-true, leb-false, eqb-true, lt-ltb, le-ltb, lt-leb, eq-eqb, ne-eqb}
-use Rattle.lists.specs.Tests.{and-left, and-right, and-both, below-at}
+use Rattle.lists.specs.Tests.{and-left, and-right}
 use Rattle.lists.specs.All.{all}
-use Rattle.lists.specs.Fields.{part, part-take}
-use Rattle.lists.specs.Select.{select, lastOf, all-drop}
+use Rattle.lists.specs.Select.{select, lastOf}
 use Rattle.lists.specs.Tabulate.{each, eachOf}
 use Rattle.days.specs.Days.{isDate, lastOpen}
 use Rattle.records.specs.declared.Claim.{Claim}
 use Rattle.records.specs.declared.Transfer.{Transfer}
-use Rattle.securities.specs.Securities.{securityOf, typeOf, frequencyOf, Row, rowOf, rowsFrom, rowsOf, isEmpty, isFilled, filledRows, goodRow, goodRows, goodSecurity, goodTables}
+use Rattle.securities.specs.Securities.{securityOf, typeOf, frequencyOf, Row, rowsFrom, rowsOf, isEmpty, isFilled, filledRows, goodRow, goodRows, goodTables}
 use Rattle.securities.proofs.Sound.{Good, good-row}
 use Rattle.tags.specs.declared.Tag.{Tag}
 use Rattle.tags.specs.declared.Tag.the-variants.{On}
@@ -27,110 +26,7 @@ use Rattle.days.specs.declared.Date.{Date}
 use Rattle.claims.specs.Amounts.{failType, claimOn}
 use Rattle.claims.specs.Fails.{maximumNumbers, maximumFor, eligibleIn, eligible, Due, due, fails, dues, transferParties, transferClaims}
 use Rattle.claims.specs.Reached.{rowAt, leading, isReached, reachedRows, failClaim, Failing}
-
--- ---- a row in its place
-
--- a row is its seven words alone
-row-words : (i : ℕ) (words : List ℕ) → rowOf i (take 7 words) ≡ rowOf i words
-unfolding rowOf
-row-words i words =
-    rw (getD-take 7 words 0 0 (omega arith), getD-take 7 words 1 0 (omega arith), getD-take 7 words 2 0 (omega arith), getD-take 7 words 3 0 (omega arith), getD-take 7 words 4 0 (omega arith), getD-take 7 words 5 0 (omega arith), getD-take 7 words 6 0 (omega arith))
-
-rows-length : (n i : ℕ) (words : List ℕ) → length (rowsFrom n i words) ≡ n
-unfolding rowsFrom
-rows-length zero i words = refl
-rows-length (suc n) i words = ap suc (rows-length n (suc i) (drop 7 words))
-
-rows-from-at : (n k : ℕ) (words : List ℕ) (i : ℕ) (d : Row) → i < n → getD (rowsFrom n k words) i d ≡ rowOf (k + i) (drop (7 * i) words)
-unfolding rowsFrom
-rows-from-at zero k words i d h = absurd (not-suc-le-zero h)
-rows-from-at (suc n) k words zero d h = ap (λ (x : ℕ). rowOf x words) (sym (add-zero k))
-rows-from-at (suc n) k words (suc i) d h =
-    let a : suc k + i ≡ k + suc i = omega arith in
-    let b : 7 + 7 * i ≡ 7 * suc i = omega arith in
-    rows-from-at n (suc k) (drop 7 words) i d (omega arith)
-    ∙ ap₂ rowOf a (drop-drop (7 * i) 7 words ∙ ap (λ (x : ℕ). drop x words) b)
-
-pub rows-of-at : (tables : List ℕ) (s i : ℕ) (d : Row) → i < 16 → getD (rowsOf (securityOf tables s)) i d ≡ rowAt tables s i
-unfolding rowsOf securityOf rowAt
-rows-of-at tables s i d h =
-    let from = drop (114 * s) tables in
-    let a : 114 * s + (2 + 7 * i) ≡ 114 * s + 2 + 7 * i = omega arith in
-    rows-from-at 16 0 (drop 2 (take 114 from)) i d h
-    ∙ ap (λ (k : ℕ). rowOf k (drop (7 * i) (drop 2 (take 114 from)))) (zero-add i)
-    ∙ ap (λ (words : List ℕ). rowOf i words) (drop-drop (7 * i) 2 (take 114 from))
-    ∙ sym (row-words i (drop (2 + 7 * i) (take 114 from)))
-    ∙ ap (λ (words : List ℕ). rowOf i words) (part-take (2 + 7 * i) 7 114 from (omega arith) ∙ ap (take 7) (drop-drop (2 + 7 * i) (114 * s) tables))
-    ∙ ap (λ (k : ℕ). rowOf i (part k 7 tables)) a
-
-pub length-rows-of : (tables : List ℕ) (s : ℕ) → length (rowsOf (securityOf tables s)) ≡ 16
-unfolding rowsOf
-length-rows-of tables s = rows-length 16 0 (drop 2 (securityOf tables s))
-
-pub beneficiary-word : (tables : List ℕ) (s i : ℕ) → getD tables (114 * s + 2 + 7 * i + 1) 0 ≡ rowAt tables s i .beneficiaryDate
-unfolding rowAt rowOf
-beneficiary-word tables s i =
-    sym (getD-take 7 (drop (114 * s + 2 + 7 * i) tables) 1 0 (omega arith) ∙ getD-drop (114 * s + 2 + 7 * i) tables 1 0)
-
--- ---- unused securities
-
-zero-at : (words : List ℕ) (k : ℕ) → all (λ w. eqb w 0) words ≡ true → eqb (getD words k 0) 0 ≡ true
-unfolding all
-zero-at [] k t = refl
-zero-at (w ∷ ws) zero t = and-left (eqb w 0) (all (λ w. eqb w 0) ws) t
-zero-at (w ∷ ws) (suc k) t = zero-at ws k (and-right (eqb w 0) (all (λ w. eqb w 0) ws) t)
-
-zeros-row : (i : ℕ) (words : List ℕ) → all (λ w. eqb w 0) words ≡ true → isEmpty (rowOf i words) ≡ true
-unfolding rowOf isEmpty
-zeros-row i words t =
-    rw (zero-at words 0 t, zero-at words 1 t, zero-at words 2 t, zero-at words 3 t, zero-at words 4 t, zero-at words 5 t, zero-at words 6 t)
-
-zeros-empty : (n i : ℕ) (words : List ℕ) → all (λ w. eqb w 0) words ≡ true → all isEmpty (rowsFrom n i words) ≡ true
-unfolding all rowsFrom
-zeros-empty zero i words t = refl
-zeros-empty (suc n) i words t = and-both (zeros-row i words t) (zeros-empty n (suc i) (drop 7 words) (all-drop _ 7 words t))
-
--- ---- the rules of a security of sound tables
-
--- empty rows keep the rules
-good-empty : (last a b : ℕ) (rows : List Row) → all isEmpty rows ≡ true → goodRows last a b rows ≡ true
-unfolding goodRows all
-good-empty last a b [] t = refl
-good-empty last a b (row ∷ rows) t =
-    rw (and-left (isEmpty row) (all isEmpty rows) t) (and-right (isEmpty row) (all isEmpty rows) t)
-
-module _ (calendar tables : List ℕ) (s : ℕ) (t : goodTables calendar tables ≡ true) (h : s < 16) where
-  good-security : goodSecurity (lastOpen calendar) (securityOf tables s) ≡ true
-  unfolding goodTables
-  good-security = below-at (λ s. goodSecurity (lastOpen calendar) (securityOf tables s)) 16 t s h
-
-  good-rows : goodRows (lastOpen calendar) 0 0 (rowsOf (securityOf tables s)) ≡ true
-  unfolding goodSecurity
-  good-rows = go (eqb (typeOf words) 0) good-security
-    where
-      words : List ℕ
-      words = securityOf tables s
-
-      go : (b : Bool)
-          → cond b (all (λ w. eqb w 0) words)
-          (leb (typeOf words) 4 && leb 1 (frequencyOf words) && leb (frequencyOf words) 4 && goodRows (lastOpen calendar) 0 0 (rowsOf words)) ≡ true
-          → goodRows (lastOpen calendar) 0 0 (rowsOf words) ≡ true
-      go true e = unfold rowsOf in good-empty (lastOpen calendar) 0 0 _ (zeros-empty 16 0 (drop 2 words) (all-drop _ 2 words e))
-      go false e = search (and-left, and-right, e) depth 8
-
-  pub small-frequency : frequencyOf (securityOf tables s) ≤ 4
-  unfolding goodSecurity
-  small-frequency = go (eqb (typeOf words) 0) good-security
-    where
-      words : List ℕ
-      words = securityOf tables s
-
-      go : (b : Bool)
-          → cond b (all (λ w. eqb w 0) words)
-          (leb (typeOf words) 4 && leb 1 (frequencyOf words) && leb (frequencyOf words) 4 && goodRows (lastOpen calendar) 0 0 (rowsOf words)) ≡ true
-          → frequencyOf words ≤ 4
-      go true e = unfold frequencyOf in let z = eqb-true (getD words 1 0) 0 (zero-at words 1 e) in omega arith
-      go false e = leb-true (frequencyOf words) 4 (search (and-left, and-right, e) depth 8)
+use Rattle.claims.proofs.TableRows.{rows-length, rows-of-at, length-rows-of, good-rows}
 
 -- ---- the rows that the day has reached come first
 

@@ -18,7 +18,7 @@ use Rattle.claims.specs.Fails.{transferParties}
 use Rattle.claims.specs.Claimable.{Claimable}
 use Rattle.claims.specs.Passes.{Free, Passed, pass-start, pass-more, pass-now, pass-end}
 use Rattle.claims.specs.Reached.{rowAt, leading, isReached, reachedRows, failClaim, Failing}
-use Rattle.claims.proofs.Reached.{rows-of-at, beneficiary-word, length-rows-of}
+use Rattle.claims.proofs.TableRows.{rows-of-at, beneficiary-word, length-rows-of}
 
 -- ---- the rows that the day has reached
 

@@ -1,13 +1,14 @@
 // The vectors of single calls: calls.in holds the calls, calls.expected what they should give.
 // A line is written for each call that differs, with its place in the files counted from 0 and what differs, and for a file that does
 // not end with its last entry; then how many agree and how many differ.
+use crate::totals;
+use crate::totals::Totals;
 use book::Book;
 use book::Done;
 use call_files::entries::Entry;
 use call_files::entries::Expected;
 use call_files::print;
 use check::same;
-use libc::STDOUT_FILENO;
 
 // Which parts of what a call gives differ from what it should give.
 struct Differences {
@@ -17,12 +18,6 @@ struct Differences {
     claims: bool,
     balances: bool,
     buffer: bool,
-}
-
-// How many calls agree and how many differ.
-struct Totals {
-    agree: u32,
-    differ: u32,
 }
 
 // Whether anything differs.
@@ -200,20 +195,9 @@ fn try_entry(
 fn counted(totals: Totals, index: u32, d: Differences) -> Totals {
     if differs(d) {
         print_differences(index, d);
-        return Totals {
-            agree: totals.agree,
-            differ: more(totals.differ),
-        };
+        return totals::with(totals, false);
     }
-    Totals {
-        agree: more(totals.agree),
-        differ: totals.differ,
-    }
-}
-
-// One more, up to the largest number.
-fn more(n: u32) -> u32 {
-    if n < 4294967295 { n + 1 } else { n }
+    totals::with(totals, true)
 }
 
 // The totals where the files end: one more that differs for a file that does not end with its last entry.
@@ -223,10 +207,7 @@ fn ended(totals: Totals, at: usize, length: usize, file: &[u8]) -> Totals {
     }
     print(file);
     print(b" does not end with its last entry\n");
-    Totals {
-        agree: totals.agree,
-        differ: more(totals.differ),
-    }
+    totals::with(totals, false)
 }
 
 // Tries the calls of a file, one after another. A proved loop has to end, so it counts them, up to more than a file holds.
@@ -239,10 +220,7 @@ fn try_all(
     claims: &mut [u8; 16384],
     left: &mut [u64; 4128],
 ) -> Totals {
-    let mut totals = Totals {
-        agree: 0,
-        differ: 0,
-    };
+    let mut totals = totals::none();
     let mut at: usize = 0;
     let mut place: usize = 0;
     let mut index: u32 = 0;
@@ -290,19 +268,11 @@ fn try_file(s: &[u8], t: &[u8]) -> Totals {
     )
 }
 
-// Writes how many calls agree and how many differ.
-fn print_totals(totals: Totals) {
-    io::print_decimal(STDOUT_FILENO, totals.agree as u64);
-    print(b" calls agree,");
-    call_files::print_field(totals.differ as u64);
-    print(b" differ\n");
-}
-
 // Reads the two files and tries the calls.
 fn try_stored(calls: &mut [u8], expected: &mut [u8]) {
     let n = call_files::read_file(b"calls.in", calls);
     let m = call_files::read_file(b"calls.expected", expected);
-    print_totals(try_file(&calls[..n], &expected[..m]));
+    totals::print_totals(try_file(&calls[..n], &expected[..m]), b" calls");
 }
 
 // The same with whole buffers. The arrays are handed on by reference first, so that their elements stay out of the proofs.

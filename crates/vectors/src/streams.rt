@@ -1,12 +1,13 @@
 // The vectors of streams: for each, streams.in holds a book.dat, the input, and all that should be written for it.
 // Each input is served in two runs, cut in its middle. A line is written for each stream that differs, with its place in the file
 // counted from 0; then how many agree and how many differ.
+use crate::totals;
+use crate::totals::Totals;
 use book::Book;
 use call_files::part;
 use call_files::plus;
 use call_files::print;
 use check::same;
-use libc::STDOUT_FILENO;
 use records::Answer;
 
 // Where the parts of a stream stand in the file.
@@ -29,12 +30,6 @@ struct Run {
     is_same: bool,
     going: bool,
     over: bool,
-}
-
-// How many streams agree and how many differ.
-struct Totals {
-    agree: u32,
-    differ: u32,
 }
 
 // The stream at a place of the file: three parts, each behind its length.
@@ -223,32 +218,17 @@ fn try_one(s: &[u8], t: Stream, balances: &mut [u64], output: &mut [u8]) -> bool
 
 // The totals with one more stream.
 fn counted(totals: Totals, index: u32, agrees: bool) -> Totals {
-    if agrees {
-        return Totals {
-            agree: more(totals.agree),
-            differ: totals.differ,
-        };
+    if !agrees {
+        print(b"stream");
+        call_files::print_field(index as u64);
+        print(b" differs\n");
     }
-    print(b"stream");
-    call_files::print_field(index as u64);
-    print(b" differs\n");
-    Totals {
-        agree: totals.agree,
-        differ: more(totals.differ),
-    }
-}
-
-// One more, up to the largest number.
-fn more(n: u32) -> u32 {
-    if n < 4294967295 { n + 1 } else { n }
+    totals::with(totals, agrees)
 }
 
 // Tries the streams of a file, one after another.
 fn try_all(s: &[u8], balances: &mut [u64], output: &mut [u8]) -> Totals {
-    let mut totals = Totals {
-        agree: 0,
-        differ: 0,
-    };
+    let mut totals = totals::none();
     let mut at: usize = 0;
     let mut index: u32 = 0;
     while index < 4294967295 {
@@ -263,18 +243,10 @@ fn try_all(s: &[u8], balances: &mut [u64], output: &mut [u8]) -> Totals {
     totals
 }
 
-// Writes how many streams agree and how many differ.
-fn print_totals(totals: Totals) {
-    io::print_decimal(STDOUT_FILENO, totals.agree as u64);
-    print(b" streams agree,");
-    call_files::print_field(totals.differ as u64);
-    print(b" differ\n");
-}
-
 // Reads the file and tries the streams.
 fn try_stored(file: &mut [u8], balances: &mut [u64], output: &mut [u8]) {
     let n = call_files::read_file(b"streams.in", file);
-    print_totals(try_all(&file[..n], balances, output));
+    totals::print_totals(try_all(&file[..n], balances, output), b" streams");
 }
 
 // The same with whole buffers. The arrays are handed on by reference first, so that their elements stay out of the proofs.

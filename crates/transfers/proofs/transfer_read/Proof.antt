@@ -9,7 +9,8 @@ use Rattle.records.proofs.Readings.{transfer-long, first-line-length, second-li
 use Rattle.claims.specs.Passes.{free-count, free-store, passed-written}
 use Rattle.claims.specs.Written.{written}
 use Rattle.claims.specs.Reached.{Failing}
-use Rattle.claims.proofs.Reached.{few-transfer, small-frequency}
+use Rattle.claims.proofs.TableRows.{small-frequency}
+use Rattle.claims.proofs.Reached.{few-transfer}
 use Rattle.fails.specs.Recent.{recentClaims}
 use Rattle.fails.proofs.Claimed.{Recently, recently}
 use Rattle.book.specs.Loans.{changeOf, changed}

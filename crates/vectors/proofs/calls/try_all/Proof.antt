@@ -10,6 +10,9 @@ Inv-loop s t calendar₀ tables₀ balances₀ claims₀ left₀ totals₀ at₀
 abbrev μ-loop : tie.MeasureT-loop
 μ-loop s t calendar₀ tables₀ balances₀ claims₀ left₀ totals₀ at₀ place₀ index₀ t16 t17 calendar tables balances claims left totals at place index = 4294967295 - index
 
+none-requires : tie.Need-none-requires Inv-loop μ-loop
+none-requires c κs = search needs
+
 loop-holds : tie.Need-loop-holds Inv-loop μ-loop
 loop-holds c = search needs
 
@@ -55,6 +58,7 @@ try-all-spec =
     (tie.spec
     Inv-loop
     μ-loop
+    none-requires
     loop-holds
     entry-at-requires
     expected-at-requires

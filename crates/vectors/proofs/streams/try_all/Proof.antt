@@ -12,6 +12,9 @@ Inv-loop s balances₀ output₀ totals₀ at₀ index₀ balances output totals
 abbrev μ-loop : tie.MeasureT-loop
 μ-loop s balances₀ output₀ totals₀ at₀ index₀ balances output totals at index = 4294967295 - index
 
+none-requires : tie.Need-none-requires Inv-loop μ-loop
+none-requires c κs = search needs
+
 loop-holds : tie.Need-loop-holds Inv-loop μ-loop
 loop-holds c = search needs
 
@@ -57,6 +60,7 @@ try-all-spec =
     (tie.spec
     Inv-loop
     μ-loop
+    none-requires
     loop-holds
     same-length
     same-length-2
