@@ -1,6 +1,6 @@
--- A quick test of the balances: where what they have above the largest balance adds up to nothing, and no account lends itself, they are
--- good (`quick-good` in proofs/Quick.antt). The sum asks no question of a single word, so that many
--- words can be taken at once.
+-- A quick test of the balances: where what they have above the largest balance adds up to nothing, and so does what accounts have lent
+-- themselves, they are good (`quick-good` in proofs/Quick.antt). The two sums ask no question of a single word, so that many words can be
+-- taken at once.
 use mathlib.Core.List.{List}
 use Prim.Native.Nat.{ℕ, zero, suc, _+_, _*_, _/_, _%_}
 use lib.ListN.{getD}
