@@ -263,3 +263,19 @@ waiting-end s e = go (begins s)
     go (cut h t l) = absurd (other {x = Wrong} (λ q. omega arith) (next-cut s true h t l))
     go (close h t c) = absurd (other {x = Record 4} (λ q. omega arith) (next-close s true h t c))
     go (wrong h t c) = absurd (other {x = Wrong} (λ q. omega arith) (next-wrong s true h t c))
+
+-- what may still become a record is shorter than the longest
+pub waiting-short : (s : List ℕ) → Waiting ≡ next false s → length s < 141
+unfolding caseOf
+waiting-short s e = go (begins s)
+  where
+    other : {x : Next} → (caseOf x ≡ 1 → ⊥) → x ≡ next false s → ⊥
+    other h q = h (ap caseOf (q ∙ sym e))
+
+    go : Begins s → length s < 141
+    go (empty z) = omega arith
+    go (short z h) = omega arith
+    go (transfer h t l) = absurd (other {x = Record 141} (λ q. omega arith) (next-transfer s false h t l))
+    go (cut h t l) = l
+    go (close h t c) = absurd (other {x = Record 4} (λ q. omega arith) (next-close s false h t c))
+    go (wrong h t c) = absurd (other {x = Wrong} (λ q. omega arith) (next-wrong s false h t c))

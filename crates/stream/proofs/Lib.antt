@@ -2,6 +2,8 @@ pub mod Headers
 pub mod Records
 pub mod Runs
 pub mod Cuts
+pub mod Stops
 pub mod Theorem
+pub mod ServedRuns
 pub mod Bounds
 pub mod Rows

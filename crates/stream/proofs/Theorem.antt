@@ -2,9 +2,9 @@
 use mathlib.Core.Path.{_≡_, refl, sym, ap, _∙_, subst}
 use mathlib.Core.Bool.{Bool, true, false, cond, true≢false}
 use mathlib.Core.List.{List, [], _∷_, _++_, append-assoc, append-nil}
-use Prim.Native.Nat.{ℕ, zero, suc, _≤_, _<_}
+use Prim.Native.Nat.{ℕ, zero, suc, _+_, _≤_, _<_}
 use native.Mathlib.Omega.{arith}
-use lib.ListN.{length, length-drop}
+use lib.ListN.{length, length-append, length-drop}
 use Rattle.lists.specs.Tests.{cond-true, cond-false}
 use Rattle.lists.specs.First.{firstOf}
 use Rattle.book.specs.declared.Book.{Book}
@@ -20,6 +20,7 @@ use Rattle.stream.specs.Serving.{Serving, endedByFive, after, serveUpTo,
 use Rattle.stream.specs.Statement.{Step, Session, begun, advanced, stepped, arrived, finished, inputOf, ledgerBytes, still, AnswersStream, EveryStream}
 use Rattle.stream.proofs.Headers.{waiting-end, next-size}
 use Rattle.stream.proofs.Runs.{record-served, wrong-served}
+use Rattle.stream.proofs.Stops.{serving-stops}
 use Rattle.stream.proofs.Cuts as cuts
 
 positive : (n : ℕ) → (n ≡ 0 → ⊥) → 0 < n
@@ -31,20 +32,20 @@ module _ (calendar tables : List ℕ) where
   total : List ℕ → Session → List ℕ
   total more s = s .written ++ cond (s .over) [] (streamBytes calendar tables (s .book) (s .balances) (s .pending ++ more))
 
-  Sound : Session → Type 0
+  unfoldable pub Sound : Session → Type 0
   Sound s = firstOf (bookCauses calendar tables (s .book .day) (s .balances)) ≡ 0
 
   -- ---- one run
 
   module _ (ended : Bool) (s : Session) (x : Step) where
-    served : Serving
+    unfoldable pub served : Serving
     served = serving calendar tables ended (s .book) (s .balances) (s .pending ++ x .bytes) (x .room)
 
     stepped-over : s .over ≡ true → stepped calendar tables ended s x ≡ s
     unfolding stepped
     stepped-over q = cond-true _ _ q
 
-    stepped-on : s .over ≡ false → stepped calendar tables ended s x ≡ advanced s (s .pending ++ x .bytes) served
+    pub stepped-on : s .over ≡ false → stepped calendar tables ended s x ≡ advanced s (s .pending ++ x .bytes) served
     unfolding stepped served
     stepped-on q = cond-false _ _ q
 
@@ -66,7 +67,7 @@ module _ (calendar tables : List ℕ) where
               ∙ sym (append-assoc (s .written) (served .bytes) _)
               ∙ ap (total more) (sym (stepped-on q))
 
-      step-sound : Sound s → Sound (stepped calendar tables ended s x)
+      pub step-sound : Sound s → Sound (stepped calendar tables ended s x)
       unfolding Sound advanced
       step-sound z = go (s .over) refl
         where
@@ -141,6 +142,19 @@ module _ (calendar tables : List ℕ) where
       let p : 0 < length (s .pending) = positive (length (s .pending)) n in
       omega (arith, k, l, m, p)
 
+  -- ---- a run that stops with room left
+
+  stops : (s : Session) (ended : Bool) (x : Step) → s .over ≡ false → stepped calendar tables ended s x .over ≡ false
+      → length (stepped calendar tables ended s x .written) + 65542 ≤ length (s .written) + x .room
+      → Waiting ≡ next ended (stepped calendar tables ended s x .pending)
+  unfolding advanced served
+  stops s ended x o q h =
+      let e = stepped-on ended s x o in
+      let w = ap (λ (t : Session). length (t .written)) e ∙ length-append (s .written) (served ended s x .bytes) in
+      serving-stops calendar tables ended (s .book) (s .balances) (s .pending ++ x .bytes) (x .room) (sym (ap (λ (t : Session). t .over) e) ∙ q)
+      (omega (arith, w, h))
+      ∙ ap (λ (t : Session). next ended (t .pending)) (sym e)
+
 -- ---- the theorem
 
 module _ (calendar tables balances : List ℕ) (day : ℕ) (e : opened calendar tables balances day .number ≡ 0) where
@@ -152,7 +166,11 @@ module _ (calendar tables balances : List ℕ) (day : ℕ) (e : opened calendar 
       go zero q = refl
       go (suc n) q = q
 
-  answered : (input : List ℕ)
+  pub opening-sound : Sound calendar tables (begun (opened calendar tables balances day))
+  unfolding Sound begun
+  opening-sound = opened-sound calendar tables balances day accepted
+
+  pub answered : (input : List ℕ)
       → streamBytes calendar tables (opened calendar tables balances day .book) (opened calendar tables balances day .balances) input
       ≡ ledgerBytes calendar tables day input
   unfolding streamBytes ledgerBytes runFrom
@@ -181,6 +199,7 @@ module _ (calendar tables balances : List ℕ) (day : ℕ) (e : opened calendar 
           ended = λ o. nothing-still (cond-true _ _ o);
           sound = z;
           progress = progress calendar tables s;
+          stops = stops calendar tables s;
         }
 
 pub every-stream : EveryStream
@@ -191,4 +210,4 @@ every-stream calendar tables balances day e steps rooms =
     (finished-holds calendar tables (o .book) (o .balances) rooms (inputOf steps) (arrived calendar tables (begun o) steps)
     (arrived-holds calendar tables (o .book) (o .balances) steps [] (begun o) (λ more. refl) []))
     (finished-sound calendar tables rooms (arrived calendar tables (begun o) steps)
-    (arrived-sound calendar tables steps (begun o) (opened-sound calendar tables balances day (accepted calendar tables balances day e))))
+    (arrived-sound calendar tables steps (begun o) (opening-sound calendar tables balances day e)))

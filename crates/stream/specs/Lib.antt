@@ -1,3 +1,4 @@
 pub mod Stream
 pub mod Serving
 pub mod Statement
+pub mod ServedRuns

@@ -2,19 +2,21 @@
 -- any way: a caller hands each run the bytes that the last one left behind it together with those that have arrived since, in an output of
 -- any room, and, when the input has ended, goes on with what is left. Then all that was written, and what is still to be written for the
 -- bytes not worked yet, is what the ledger of accepted calls answers for the records of the whole stream: for each record its claims and
--- its answer, and a 5 at the end where something stands that is no record. The book stays sound, so that no run is refused; and a run
--- with room for a record, at the end of the input, ends the stream or leaves fewer bytes.
+-- its answer, and a 5 at the end where something stands that is no record. The book stays sound, so that no run is refused; a run with
+-- room for a record, at the end of the input, ends the stream or leaves fewer bytes; and a run that was not ended by a 5 and still has
+-- room for a record leaves nothing that could be worked.
 use mathlib.Core.Path.{_≡_}
 use mathlib.Core.Bool.{Bool, cond, true, false}
 use mathlib.Core.List.{List, [], _∷_, _++_}
-use Prim.Native.Nat.{ℕ, _≤_, _<_}
+use Prim.Native.Nat.{ℕ, _+_, _≤_, _<_}
 use lib.ListN.{length, drop}
 use Rattle.lists.specs.First.{firstOf}
 use Rattle.book.specs.declared.Book.{Book}
 use Rattle.book.specs.Soundness.{bookCauses}
 use Rattle.history.specs.Ledger.{started, judged}
 use Rattle.history.specs.Results.{Opened, opened}
-use Rattle.stream.specs.Stream.{emittedAll, callsOf, ending, streamBytes}
+use Rattle.stream.specs.declared.Next.the-variants.{Waiting}
+use Rattle.stream.specs.Stream.{next, emittedAll, callsOf, ending, streamBytes}
 use Rattle.stream.specs.Serving.{Serving, serving, recordRoom}
 
 -- ---- a caller
@@ -79,6 +81,9 @@ pub record AnswersStream (calendar tables : List ℕ) (day : ℕ) (input : List 
   pub progress : (room : ℕ) → recordRoom ≤ room → s .over ≡ false → (length (s .pending) ≡ 0 → ⊥)
       → stepped calendar tables true s (record { bytes = []; room = room }) .over ≡ false
       → length (stepped calendar tables true s (record { bytes = []; room = room }) .pending) < length (s .pending)
+  pub stops : (ended : Bool) (x : Step) → s .over ≡ false → stepped calendar tables ended s x .over ≡ false
+      → length (stepped calendar tables ended s x .written) + recordRoom ≤ length (s .written) + x .room
+      → Waiting ≡ next ended (stepped calendar tables ended s x .pending)
 
 -- Every stream, however it is cut, from an accepted opening.
 abbrev pub EveryStream : Type 0
