@@ -90,7 +90,7 @@ fn call(
 }
 
 // Writes an answer at a place of the output.
-fn put_answer(output: &mut [u8], at: usize, number: u16)
+pub fn put_answer(output: &mut [u8], at: usize, number: u16)
     requires { ⌜ at + 6 ≤ length (now output) ⌝ }
     ensures { λ _. ⌜ now (output .exit) ≡ put (now (output .entry)) at (answerBytes number) ⌝ }
 {

@@ -1,0 +1,3 @@
+pub mod Claimrun
+pub mod Steps
+pub mod Statement
