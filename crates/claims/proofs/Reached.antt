@@ -12,6 +12,7 @@ use lib.Seq.{take-nil, take-suc, getD-drop, length-take-le}
 use borrow.Author.Tests.{ltb-true, leb-true, leb-false, eqb-true, lt-ltb, le-ltb, lt-leb, eq-eqb, ne-eqb}
 use Rattle.lists.specs.Tests.{and-left, and-right}
 use Rattle.lists.specs.All.{all}
+use Rattle.lists.specs.Parts.{drop-take}
 use Rattle.lists.specs.Select.{select, lastOf}
 use Rattle.lists.specs.Tabulate.{each, eachOf}
 use Rattle.days.specs.Days.{isDate, lastOpen}
@@ -131,14 +132,6 @@ module _ (last day : ℕ) where
       go (filled q g l f) i h ih = behind (isReached day row) i h g (λ j k. ih f j d k)
 
 -- ---- claims, one row after the other
-
-drop-take : {A : Type 0} (k n : ℕ) (xs : List A) → drop k (take n xs) ≡ take (n - k) (drop k xs)
-drop-take zero n xs = ap (λ (m : ℕ). take m xs) (sym (sub-zero n))
-drop-take (suc k) zero xs = sym (ap (λ (m : ℕ). take m (drop (suc k) xs)) (zero-sub (suc k)))
-drop-take (suc k) (suc n) [] = sym (take-nil (suc n - suc k))
-drop-take (suc k) (suc n) (x ∷ xs) =
-    let e : n - k ≡ suc n - suc k = omega arith in
-    drop-take k n xs ∙ ap (λ (m : ℕ). take m (drop k xs)) e
 
 -- a claim for each row that passes a test
 select-each : {A B : Type 0} (p : A → Bool) (f : A → B) (xs : List A) → map f (select p xs) ≡ eachOf xs (λ x. cond (p x) (f x ∷ []) [])

@@ -1,6 +1,7 @@
 pub mod Tests
 pub mod All
 pub mod Put
+pub mod Parts
 pub mod Numbers
 pub mod Fields
 pub mod First

@@ -1,3 +1,5 @@
 pub mod Flags
 pub mod Steps
 pub mod Theorem
+pub mod Moves
+pub mod Coded

@@ -84,10 +84,10 @@ fn has_ended(held: Held, got: usize) -> bool
     if held.ended {
         return true;
     }
-    if !held.asks {
-        return false;
+    if held.asks {
+        return got == 0;
     }
-    got == 0
+    false
 }
 
 // Whether the run is over: on a book that is not sound, after a 5, or at the end of the input with room left.
@@ -100,10 +100,10 @@ fn is_over(s: Served, ended: bool, full: bool) -> bool
     if s.over {
         return true;
     }
-    if !ended {
-        return false;
+    if ended {
+        return !full;
     }
-    !full
+    false
 }
 
 // Whether neither holds.

@@ -1,49 +1,42 @@
+-- Each turn moves one byte.
+use Prim.Native.Nat.{_-_}
+use Rattle.program.proofs.Moves.{Moving, moving-start, moving-again, moving-end}
+use borrow.Author.Needs.{needs}
 use Rattle.steps.proofs.move_down.Statement.{statement}
 use Rattle.steps.proofs.move_down.Tie as tie
-use Rattle.steps.proofs.move_down.Reads as reads
-use Rattle.steps.proofs.move_down.Lts as lts
 
 abbrev Inv-loop : tie.InvT-loop
-Inv-loop buf₀ from n i₀ buf i = ?
+Inv-loop buf₀ from n i₀ buf i = Moving buf₀ from n buf i
 
 abbrev μ-loop : tie.MeasureT-loop
-μ-loop buf₀ from n i₀ buf i = ?
+μ-loop buf₀ from n i₀ buf i = n - i
 
--- src/lib.rt:74:5
 loop-holds : tie.Need-loop-holds Inv-loop μ-loop
-loop-holds c = ?
+loop-holds c = moving-start _ _ _
 
--- src/lib.rt:75:22
 add-buf : tie.Need-add-buf Inv-loop μ-loop
-add-buf c = ?
+add-buf c = search needs
 
--- src/lib.rt:75:18
 slice-read-buf : tie.Need-slice-read-buf Inv-loop μ-loop
-slice-read-buf c = ?
+slice-read-buf c = search needs
 
--- src/lib.rt:75:9
 slice-write-buf : tie.Need-slice-write-buf Inv-loop μ-loop
-slice-write-buf c = ?
+slice-write-buf c = search needs
 
--- src/lib.rt:76:9
 add-i : tie.Need-add-i Inv-loop μ-loop
-add-i c = ?
+add-i c = search needs
 
--- src/lib.rt:74:5
 loop-less : tie.Need-loop-less Inv-loop μ-loop
-loop-less c = ?
+loop-less c = search needs
 
--- src/lib.rt:74:5
 loop-again : tie.Need-loop-again Inv-loop μ-loop
-loop-again c = ?
+loop-again c = moving-again (search needs) (search needs) (c .before .before .loop .inv)
 
--- src/lib.rt:69:1
 same-length : tie.Need-same-length Inv-loop μ-loop
-same-length c = ?
+same-length c = search needs
 
--- src/lib.rt:69:1
 returns : tie.Need-returns Inv-loop μ-loop
-returns c = ?
+returns c = moving-end (search needs) (c .before .loop .inv)
 
 pub move-down-spec : {M : Type 1} → statement M
 move-down-spec =
