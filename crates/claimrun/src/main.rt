@@ -1,34 +1,43 @@
 // The program claimrun (document 01): reads book.dat in the working directory, opens the book, and serves the records of standard input to
-// standard output. What it reads and writes goes through serving::serve, whose contract says what is answered.
+// standard output. Between a read and a write everything is done by steps::begin and steps::step, whose contracts say what is written; here
+// is the loop around them: write, read, step.
 ghost use mathlib.Core.Path.{_≡_};
 ghost use mathlib.Core.Bool.{false};
-ghost use Prim.Native.Nat.{_+_, _≤_};
+ghost use Prim.Native.Nat.{_≤_};
 ghost use lib.ListN.{length};
-use book::Book;
+ghost use Rattle.program.specs.Steps.{begins, holding};
+ghost use Rattle.program.specs.Statement.{Ran, RanBook};
 use libc::STDIN_FILENO;
 use libc::STDOUT_FILENO;
-use records::Answer;
+use program::Held;
 
 const BOOK_FILE: [u8; 8] = *b"book.dat";
 
-// The bytes of book.dat: calendar, tables and the opening's day.
-const BOOK_BYTES: usize = 9220;
+const HELP_WORD: [u8; 6] = *b"--help";
 
-// What a block of input leaves: the book, how many bytes were worked, and whether the run goes on.
-struct Block {
-    book: Book,
-    consumed: usize,
-    going: bool,
+const VERSION_WORD: [u8; 9] = *b"--version";
+
+const VERSION: [u8; 15] = *b"claimrun 1.0.0\n";
+
+const ARGUMENTS: [u8; 60] = *b"claimrun: takes no arguments other than --help or --version\n";
+
+const HELP: [u8; 333] =
+    *b"claimrun reads book.dat (calendar, tables, opening day: 9,220 bytes) in the folder\nwhere it is started, then message records from standard input. For each record it\nwrites its claims and its answer to standard output. A book.dat that is missing or\nwrong gets one answer; an answer 5 ends the run. --version shows the version number.\n";
+
+// Whether a call that failed is to be tried again: at once after a signal, and after a pause where the descriptor is not ready.
+fn is_passing() -> bool {
+    let error = os::errno();
+    if error == libc::EINTR {
+        return true;
+    }
+    if error == libc::EAGAIN {
+        pauses::pause();
+        return true;
+    }
+    false
 }
 
-// What a read leaves: the book, how many bytes of input are not worked yet, and whether the run goes on.
-struct Turn {
-    book: Book,
-    have: usize,
-    going: bool,
-}
-
-// One read; one that a signal interrupts is tried again. The tries count down from a number that no run uses up.
+// One read; one that fails in passing is tried again. The tries count down from a number that no run uses up.
 fn read_some(fd: i32, buf: &mut [u8]) -> isize {
     let mut turns = u64::MAX;
     while turns > 0 {
@@ -36,7 +45,7 @@ fn read_some(fd: i32, buf: &mut [u8]) -> isize {
         if got >= 0 {
             return got;
         }
-        if os::errno() != libc::EINTR {
+        if !is_passing() {
             return got;
         }
         turns -= 1;
@@ -52,7 +61,7 @@ fn write_some(fd: i32, buf: &[u8]) -> isize {
         if put >= 0 {
             return put;
         }
-        if os::errno() != libc::EINTR {
+        if !is_passing() {
             return put;
         }
         turns -= 1;
@@ -60,12 +69,13 @@ fn write_some(fd: i32, buf: &[u8]) -> isize {
     -1
 }
 
-// Writes all bytes to standard output, or answers that it cannot.
+// Writes all bytes to standard output, or says on standard error that it cannot.
 fn write_out(buf: &[u8]) -> bool {
     let mut at: usize = 0;
     while at < buf.len() {
         let n = io::count(write_some(STDOUT_FILENO, &buf[at..]), &buf[at..]);
         if n == 0 {
+            os::fail(b"claimrun: standard output");
             return false;
         }
         at += n;
@@ -73,15 +83,41 @@ fn write_out(buf: &[u8]) -> bool {
     true
 }
 
-// Writes an answer to standard output.
-fn answer(number: u16) {
-    let mut out = [0u8; 6];
-    writing::write_answer(&mut out, Answer { number });
-    write_out(&out);
+// What a read of standard input gives: how many bytes, and whether it failed for good.
+struct Got {
+    bytes: usize,
+    failed: bool,
+}
+
+// The bytes that standard input gives where they are asked for, none at its end and where none are asked for. A read that fails for good is
+// said on standard error.
+fn read_in(asks: bool, buf: &mut [u8]) -> Got
+    ensures { λ r. ⌜ (r .bytes ≤ length (now (buf .exit))) × (asks ≡ false → r .bytes ≡ 0) ⌝ }
+{
+    if asks {
+        let got = read_some(STDIN_FILENO, buf);
+        if got < 0 {
+            os::fail(b"claimrun: standard input");
+            return Got {
+                bytes: 0,
+                failed: true,
+            };
+        }
+        return Got {
+            bytes: io::count(got, buf),
+            failed: false,
+        };
+    }
+    Got {
+        bytes: 0,
+        failed: false,
+    }
 }
 
 // Fills the buffer from a file, and answers how many bytes the file gave, 0 where a read fails.
-fn fill(fd: i32, buf: &mut [u8]) -> usize {
+fn fill(fd: i32, buf: &mut [u8]) -> usize
+    ensures { λ r. ⌜ r ≤ length (now (buf .exit)) ⌝ }
+{
     let mut at: usize = 0;
     while at < buf.len() {
         let got = read_some(fd, &mut buf[at..]);
@@ -98,7 +134,9 @@ fn fill(fd: i32, buf: &mut [u8]) -> usize {
 }
 
 // The bytes of book.dat, and how many there are; 0 where it cannot be read.
-fn read_book(buf: &mut [u8]) -> usize {
+fn read_book(buf: &mut [u8]) -> usize
+    ensures { λ r. ⌜ r ≤ length (now (buf .exit)) ⌝ }
+{
     let fd = os::open_read(&BOOK_FILE);
     if fd < 0 {
         return 0;
@@ -108,159 +146,91 @@ fn read_book(buf: &mut [u8]) -> usize {
     n
 }
 
-// Moves bytes to the buffer's start.
-fn move_down(buf: &mut [u8], from: usize, n: usize)
-    requires { ⌜ from + n ≤ length (now buf) ⌝ }
-    ensures { λ _. ⌜ n ≤ length (now (buf .exit)) ⌝ }
-{
-    let mut i: usize = 0;
-    while i < n {
-        buf[i] = buf[from + i];
-        i += 1;
-    }
-}
-
-// Whether a run was the last on its block: it worked nothing, or it stopped though there was room for another record.
-fn is_last(consumed: usize, room: usize) -> bool
-    ensures { λ r. ⌜ (r ≡ false → 1 ≤ consumed) ⌝ }
-{
-    if consumed == 0 {
-        return true;
-    }
-    serving::RECORD_ROOM <= room
-}
-
-// Serves a block of input and writes what it is answered with.
-fn serve_block(
-    calendar: &[u32],
-    tables: &[u32],
-    book: Book,
-    balances: &mut [u64],
-    input: &[u8],
-    ended: bool,
-    output: &mut [u8],
-) -> Block
-    ensures { λ r. ⌜ r .consumed ≤ length (now (input .entry)) ⌝ }
-{
-    let mut b = book;
-    let mut at: usize = 0;
-    let mut going = true;
-    while going {
-        let s = serving::serve(calendar, tables, b, balances, &input[at..], ended, output);
-        b = s.book;
-        at += s.consumed;
-        let written = s.written;
-        going = write_out(&output[0..written]);
-        if s.over {
-            going = false;
-        }
-        if is_last(s.consumed, output.len() - written) {
-            return Block {
-                book: b,
-                consumed: at,
-                going,
-            };
-        }
-    }
-    Block {
-        book: b,
-        consumed: at,
-        going: false,
-    }
-}
-
-// Reads what standard input has, and serves it.
-fn serve_read(
-    calendar: &[u32],
-    tables: &[u32],
-    book: Book,
-    balances: &mut [u64],
-    input: &mut [u8],
-    have: usize,
-    output: &mut [u8],
-) -> Turn
-    requires { ⌜ have ≤ length (now input) ⌝ }
-    ensures { λ r. ⌜ r .have ≤ length (now (input .exit)) ⌝ }
-{
-    let got = read_some(STDIN_FILENO, &mut input[have..]);
-    let n = io::count(got, &input[have..]);
-    let end = have + n;
-    let block = serve_block(
-        calendar,
-        tables,
-        book,
-        balances,
-        &input[0..end],
-        n == 0,
-        output,
-    );
-    let left = end - block.consumed;
-    move_down(input, block.consumed, left);
-    let next = block.book;
-    Turn {
-        book: next,
-        have: left,
-        going: is_both(block.going, n != 0),
-    }
-}
-
-// Whether both hold.
-fn is_both(a: bool, b: bool) -> bool {
-    if a { b } else { false }
-}
-
-// Serves standard input to its end. The reads count down from a number that no run uses up.
+// Writes what is to be written, reads where input is asked for, and takes a step, until the run is over; answers what it holds then, which is
+// what the steps left. The turns count down from a number that no run uses up.
 fn run(
     calendar: &[u32],
     tables: &[u32],
-    book: Book,
+    begun: Held,
     balances: &mut [u64],
     input: &mut [u8],
     output: &mut [u8],
-) {
-    let mut b = book;
-    let mut have: usize = 0;
+) -> Held
+    requires { ⌜ (begun .left ≤ length (now input)) × (begun .written ≤ length (now output)) ⌝ }
+    ensures { λ r. ⌜ Ran (now (calendar .entry)) (now (tables .entry)) (holding begun (now (balances .entry)) (now (input .entry)) (now (output .entry))) r (now (balances .exit)) (now (input .exit)) ⌝ }
+{
+    let mut held = begun;
     let mut turns = u64::MAX;
     while turns > 0 {
-        let t = serve_read(calendar, tables, b, balances, input, have, output);
-        if !t.going {
-            return;
+        let written = held.written;
+        if !write_out(&output[0..written]) {
+            return held;
         }
-        b = t.book;
-        have = t.have;
+        if held.over {
+            return held;
+        }
+        let left = held.left;
+        let got = read_in(held.asks, &mut input[left..]);
+        if got.failed {
+            return held;
+        }
+        held = steps::step(calendar, tables, held, balances, input, got.bytes, output);
         turns -= 1;
     }
+    held
 }
 
-// Opens the book and serves standard input; a book that is refused gets its number.
-fn open_and_run(calendar: &[u32], tables: &[u32], day: u32) {
-    let mut balances = [0u64; 4096];
-    let done = opens::open(calendar, tables, &mut balances, day);
-    if done.number != 0 {
-        answer(done.number);
+// Judges the bytes of book.dat and runs on standard input; answers what is held at the end.
+fn serve_book(
+    file: &[u8],
+    calendar: &mut [u32],
+    tables: &mut [u32],
+    balances: &mut [u64],
+    input: &mut [u8],
+    output: &mut [u8],
+) -> Held
+    requires { ⌜ (length (now calendar) ≡ 480) × (length (now tables) ≡ 1824) × (6 ≤ length (now output)) ⌝ }
+    ensures { λ r. ⌜ RanBook (begins (now (file .entry)) (now (calendar .entry)) (now (tables .entry)) (now (balances .entry)) (now (output .entry))) (now (input .entry)) r (now (balances .exit)) (now (input .exit)) ⌝ }
+{
+    let held = steps::begin(file, calendar, tables, balances, output);
+    run(calendar, tables, held, balances, input, output)
+}
+
+// Answers --help and --version; any other arguments get a line on standard error.
+fn answer_arguments() {
+    let mut word = [0u8; 16];
+    let n = os::arg(1, &mut word);
+    if os::arg_count() == 2 {
+        if check::same(&word[..n], &HELP_WORD) {
+            write_out(&HELP);
+            return;
+        }
+        if check::same(&word[..n], &VERSION_WORD) {
+            write_out(&VERSION);
+            return;
+        }
+    }
+    io::write_all(libc::STDERR_FILENO, &ARGUMENTS);
+}
+
+fn main() {
+    if 1 < os::arg_count() {
+        answer_arguments();
         return;
     }
+    let mut file = [0u8; 9221];
+    let n = read_book(&mut file);
+    let mut calendar = [0u32; 480];
+    let mut tables = [0u32; 1824];
+    let mut balances = [0u64; 4096];
     let mut input = io::large_buffer();
     let mut output = [0u8; 262144];
-    let book = done.book;
-    run(
-        calendar,
-        tables,
-        book,
+    serve_book(
+        &file[0..n],
+        &mut calendar,
+        &mut tables,
         &mut balances,
         &mut input,
         &mut output,
     );
-}
-
-fn main() {
-    let mut bytes = [0u8; 9221];
-    if read_book(&mut bytes) != BOOK_BYTES {
-        answer(1);
-        return;
-    }
-    let mut calendar = [0u32; 480];
-    let mut tables = [0u32; 1824];
-    let day = book_file::load(&bytes, &mut calendar, &mut tables);
-    open_and_run(&calendar, &tables, day);
 }

@@ -160,3 +160,48 @@ module _ (calendar tables : List ℕ) (held : Held) (balances₀ input₀ output
       (l ∙ ap (λ (n : ℕ). leaves calendar tables ended (held .book) balances₀ (take n input₀) output₀) (sub-zero have))
       ∙ ap (λ (b : Bool). afterServing h b have (leaves calendar tables b (held .book) balances₀ (take have input₀) output₀)) e
       ∙ sym (cond-false _ _ o)
+
+-- ---- where the counts lie
+
+module _ (calendar tables : List ℕ) (held : Held) (balances₀ input₀ output₀ : List ℕ) (got : ℕ) where
+  abbrev run : Leaves
+  run = leaves calendar tables (hasEnded held got) (held .book) balances₀ (take (held .left + got) input₀) output₀
+
+  run-written : run .written ≤ length output₀
+  unfolding servedIn leftServed
+  run-written =
+      served-inside calendar tables (hasEnded held got) (held .book) balances₀ (take (held .left + got) input₀) output₀ (run .balances) (run .output) (servedIn run)
+      refl .1
+
+  -- the counts of what a step leaves
+  counts : (b : Bool) → held .over ≡ b
+      → (stepped calendar tables (holding held balances₀ input₀ output₀) got .held .left ≤ held .left + got)
+      × (stepped calendar tables (holding held balances₀ input₀ output₀) got .held .written ≤ length output₀)
+  unfolding stepped holding resting afterServing heldAfter servedIn hasEnded
+  counts true q = rw q (omega arith, omega arith)
+  counts false q = rw q (omega arith, run-written)
+
+  pub step-bounds : (r : Held) (balances input output : List ℕ)
+      → holding r balances input output ≡ stepped calendar tables (holding held balances₀ input₀ output₀) got
+      → held .left + got ≤ length input₀ → length input ≡ length input₀ → length output ≡ length output₀
+      → (r .left ≤ length input) × (r .written ≤ length output)
+  unfolding holding
+  step-bounds r balances input output e h i w =
+      let k = counts (held .over) refl in
+      (omega (arith, k .0, ap (λ (x : Holding). x .held .left) e), omega (arith, k .1, ap (λ (x : Holding). x .held .written) e))
+
+module _ (file calendar₀ tables₀ balances₀ output₀ : List ℕ) where
+  begin-counts : (b : Bool) → eqb (length file) 9220 ≡ b → (n : ℕ) → opened (calendarIn file) (tablesIn file) balances₀ (dayIn file) .number ≡ n
+      → (begins file calendar₀ tables₀ balances₀ output₀ .held .left ≡ 0) × (begins file calendar₀ tables₀ balances₀ output₀ .held .written ≤ 6)
+  unfolding begins opening openingFor refusedHeld openHeld
+  begin-counts true q zero z = rw (q, z) (refl, omega arith)
+  begin-counts true q (suc n) z = rw (q, z) (refl, omega arith)
+  begin-counts false q n z = rw q (refl, omega arith)
+
+  pub begin-bounds : (r : Held) (calendar tables balances output : List ℕ)
+      → leftBeginning r calendar tables balances output ≡ begins file calendar₀ tables₀ balances₀ output₀ → 6 ≤ length output₀
+      → length output ≡ length output₀ → (n : ℕ) → (r .left ≤ n) × (r .written ≤ length output)
+  unfolding leftBeginning
+  begin-bounds r calendar tables balances output e h o n =
+      let k = begin-counts (eqb (length file) 9220) refl (opened (calendarIn file) (tablesIn file) balances₀ (dayIn file) .number) refl in
+      (omega (arith, k .0, ap (λ (x : Beginning). x .held .left) e), omega (arith, k .1, ap (λ (x : Beginning). x .held .written) e))

@@ -3,3 +3,4 @@ pub mod Steps
 pub mod Theorem
 pub mod Moves
 pub mod Coded
+pub mod Loop

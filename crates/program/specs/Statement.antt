@@ -13,6 +13,7 @@ use lib.ListN.{length, take}
 use Rattle.stream.specs.declared.Next.the-variants.{Waiting}
 use Rattle.stream.specs.Stream.{next, streamBytes}
 use Rattle.stream.specs.Serving.{recordRoom}
+use Rattle.program.specs.declared.Held.{Held}
 use Rattle.program.specs.Claimrun.{BookDat, missing, holds, noBalances, claimrunBytes}
 use Rattle.program.specs.Steps.{Beginning, begins, Holding, holding, pending, toWrite, stepped}
 
@@ -79,3 +80,18 @@ EveryClaimrun = (file : BookDat) (calendar tables output input : List ℕ) (b : 
     → b ≡ begins (handed file) calendar tables noBalances output → (steps : List Taken)
     → AllKeep (b .calendar) (b .tables) (atFirst b input) steps
     → Writes file (b .calendar) (b .tables) (readBy steps) (writtenBy (atFirst b input) steps) (atLast (atFirst b input) steps)
+
+-- ---- the loop
+
+-- What the program's loop keeps: the answer, the balances and the bytes not worked yet that it holds are those that some steps left, one after
+-- the other, each of which was handed what the last one left and kept its contract.
+pub record Ran (calendar tables : List ℕ) (first : Holding) (held : Held) (balances input : List ℕ) : Type 0 where
+  pub steps : List Taken
+  pub keep : AllKeep calendar tables first steps
+  pub held-is : atLast first steps .held ≡ held
+  pub balances-are : atLast first steps .balances ≡ balances
+  pub pending-is : pending (atLast first steps) ≡ take (held .left) input
+
+-- The same from a beginning on.
+abbrev pub RanBook : Beginning → List ℕ → Held → List ℕ → List ℕ → Type 0
+RanBook b input held balances input′ = Ran (b .calendar) (b .tables) (atFirst b input) held balances input′

@@ -23,8 +23,8 @@ same-length c = search needs
 returns : tie.Need-returns Inv-loop μ-loop
 returns c = search needs
 
-errno-requires : tie.Need-errno-requires Inv-loop μ-loop
-errno-requires c κs = search needs
+is-passing-requires : tie.Need-is-passing-requires Inv-loop μ-loop
+is-passing-requires c κs = search needs
 
 same-length-2 : tie.Need-same-length-2 Inv-loop μ-loop
 same-length-2 c = search needs
@@ -57,7 +57,7 @@ read-some-spec =
     read-requires
     same-length
     returns
-    errno-requires
+    is-passing-requires
     same-length-2
     returns-2
     sub-turns

@@ -6,10 +6,10 @@ use Rattle.claimrun.proofs.write_out.Statement.{statement}
 use Rattle.claimrun.proofs.write_out.Tie as tie
 
 abbrev Inv-loop : tie.InvT-loop
-Inv-loop buf at₀ at = at ≤ length buf
+Inv-loop buf at₀ t4 at = at ≤ length buf
 
 abbrev μ-loop : tie.MeasureT-loop
-μ-loop buf at₀ at = length buf - at
+μ-loop buf at₀ t4 at = length buf - at
 
 loop-holds : tie.Need-loop-holds Inv-loop μ-loop
 loop-holds c = search needs
@@ -37,6 +37,12 @@ part-count-end c = search needs
 
 count-requires : tie.Need-count-requires Inv-loop μ-loop
 count-requires c κs = search needs
+
+slice-aggregate-fail : tie.Need-slice-aggregate-fail Inv-loop μ-loop
+slice-aggregate-fail c = search needs
+
+fail-requires : tie.Need-fail-requires Inv-loop μ-loop
+fail-requires c κs = search needs
 
 returns : tie.Need-returns Inv-loop μ-loop
 returns c = search needs
@@ -68,6 +74,8 @@ write-out-spec =
     part-count-start
     part-count-end
     count-requires
+    slice-aggregate-fail
+    fail-requires
     returns
     add-at
     loop-less

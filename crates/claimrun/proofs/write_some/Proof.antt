@@ -18,8 +18,8 @@ write-requires c κs = search needs
 returns : tie.Need-returns Inv-loop μ-loop
 returns c = search needs
 
-errno-requires : tie.Need-errno-requires Inv-loop μ-loop
-errno-requires c κs = search needs
+is-passing-requires : tie.Need-is-passing-requires Inv-loop μ-loop
+is-passing-requires c κs = search needs
 
 returns-2 : tie.Need-returns-2 Inv-loop μ-loop
 returns-2 c = search needs
@@ -45,7 +45,7 @@ write-some-spec =
     loop-holds
     write-requires
     returns
-    errno-requires
+    is-passing-requires
     returns-2
     sub-turns
     loop-less
