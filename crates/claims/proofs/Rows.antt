@@ -1,4 +1,5 @@
--- Computed rows: the claims of transfers and of closes on full tables, balances and message bytes, each claim's 35 bytes written out.
+-- Computed rows: the claims of transfers and of closes on full tables, balances and message bytes, each claim's 35 bytes written out; then
+-- those on rows whose Record and Beneficiary Dates differ, each claim's fields written out.
 use mathlib.Core.Path.{_≡_, refl}
 use mathlib.Core.Bool.{Bool, true, false, _&&_}
 use mathlib.Core.List.{List, [], _∷_, _++_}
@@ -12,6 +13,7 @@ use Rattle.lists.specs.Select.{select, lastOf}
 use Rattle.lists.specs.Tabulate.{each, eachOf}
 use Rattle.days.specs.Days.{leapDay, monthLength, isDate, wordOf, dateOf, lengthOf, bitOn, lowestFrom, seekFrom, openAt, openAfter, openFrom}
 use Rattle.days.specs.Weekdays.{isWeekday, weekdayWord, weekdaysFrom, weekdays}
+use Rattle.records.specs.declared.Claim.{Claim}
 use Rattle.records.specs.MessageRecords.{claimKind, recordBytes, claimValues, transferOf, firstLine, secondLine}
 use Rattle.securities.specs.Securities.{securityOf, typeOf, frequencyOf, rowOf, rowsFrom, rowsOf, isEmpty, isFilled, filledRows}
 use Rattle.securities.specs.Cases.{caseTables}
@@ -137,16 +139,92 @@ sameBytes [] (y ∷ ys) = false
 sameBytes (x ∷ xs) [] = false
 sameBytes (x ∷ xs) (y ∷ ys) = eqb x y && sameBytes xs ys
 
--- the maximum numbers, by type and frequency
+-- the maximum numbers of a type, by frequency
+maximaOf : ℕ → List ℕ
+maximaOf type =
+    maximumFor maximumNumbers type 1 ∷ maximumFor maximumNumbers type 2 ∷ maximumFor maximumNumbers type 3 ∷ maximumFor maximumNumbers type 4 ∷ []
+
 maxima : Bool
 maxima =
-    eqb (maximumFor maximumNumbers 3 4) 7 && eqb (maximumFor maximumNumbers 4 1) 7
-    && eqb (maximumFor maximumNumbers 1 1) 6 && eqb (maximumFor maximumNumbers 2 2) 3
-    && eqb (maximumFor maximumNumbers 1 3) 2 && eqb (maximumFor maximumNumbers 2 4) 1
+    sameBytes (maximaOf 1) (6 ∷ 3 ∷ 2 ∷ 1 ∷ []) && sameBytes (maximaOf 2) (6 ∷ 3 ∷ 2 ∷ 1 ∷ [])
+    && sameBytes (maximaOf 3) (7 ∷ 7 ∷ 7 ∷ 7 ∷ []) && sameBytes (maximaOf 4) (7 ∷ 7 ∷ 7 ∷ 7 ∷ [])
+
+-- ---- Record and Beneficiary Dates that differ
+
+-- security 0: quarterly debt, its first row masked for account 2, its second final; security 3: MBS guaranteed by the United States, its
+-- first row paid on the next open day, its second without amounts, final and masked for account 1
+apartTables : List ℕ
+apartTables =
+    ((2 ∷ 2
+    ∷ 20230402 ∷ 20230410 ∷ 20230415 ∷ 10000000 ∷ 1 ∷ 0 ∷ 4
+    ∷ 20230403 ∷ 20230411 ∷ 20230420 ∷ 3000000 ∷ 500000000 ∷ 1 ∷ 0 ∷ []) ++ replicate 98 0)
+    ++ (replicate 228 0
+    ++ (((4 ∷ 1
+    ∷ 20230401 ∷ 20230328 ∷ 20230403 ∷ 7000000 ∷ 250000000 ∷ 0 ∷ 0
+    ∷ 20230403 ∷ 20230405 ∷ 20230425 ∷ 0 ∷ 0 ∷ 1 ∷ 2 ∷ []) ++ replicate 98 0)
+    ++ replicate 1368 0))
+
+-- loans each way in security 0, two loans in security 3
+loans : List ℕ
+loans =
+    set (set (set (set (replicate 4096 0)
+    (256 * 0 + 16 * 1 + 2) 40000)
+    (256 * 0 + 16 * 2 + 1) 30000)
+    (256 * 3 + 16 * 0 + 15) 999)
+    (256 * 3 + 16 * 4 + 1) 1000000000
+
+-- a claim's fields in the record's order
+claimed : List Claim → List ℕ
+claimed [] = []
+claimed (c ∷ cs) =
+    c .«claim_type» ∷ c .outcome ∷ c .payer ∷ c .payee ∷ c .security ∷ c .row ∷ c .transfer ∷ c .interest .0 ∷ c .principal .0 ∷ c .release ∷ c .slot
+    ∷ claimed cs
+
+-- between the Record and the Beneficiary Dates; C after the Record Date; C on the first Beneficiary Date; the day on it; a day before the
+-- Record Date; C on the Beneficiary Date
+apartTransfers : List TransferRow
+apartTransfers =
+    row apartTables 20230404 (sent 1 2 0 0 1000 (tagLine 20230331)) []
+    ∷ row apartTables 20230411 (sent 1 2 0 0 1000 (tagLine 20230405)) (1 ∷ 0 ∷ 1 ∷ 2 ∷ 0 ∷ 0 ∷ 9 ∷ 1000 ∷ 0 ∷ 20230417 ∷ 3
+    ∷ 1 ∷ 0 ∷ 1 ∷ 2 ∷ 0 ∷ 1 ∷ 9 ∷ 300 ∷ 50000 ∷ 20230420 ∷ 3 ∷ [])
+    ∷ row apartTables 20230411 (sent 1 2 0 0 1000 (tagLine 20230410)) (1 ∷ 0 ∷ 1 ∷ 2 ∷ 0 ∷ 1 ∷ 9 ∷ 300 ∷ 50000 ∷ 20230420 ∷ 3 ∷ [])
+    ∷ row apartTables 20230410 (sent 1 2 0 0 1000 (tagLine 20230405)) (1 ∷ 0 ∷ 1 ∷ 2 ∷ 0 ∷ 0 ∷ 9 ∷ 1000 ∷ 0 ∷ 20230417 ∷ 3 ∷ [])
+    ∷ row apartTables 20230331 (sent 1 2 3 0 1000 (tagLine 20230327)) (1 ∷ 0 ∷ 1 ∷ 2 ∷ 3 ∷ 0 ∷ 9 ∷ 700 ∷ 25000 ∷ 20230403 ∷ 1 ∷ [])
+    ∷ row apartTables 20230331 (sent 1 2 3 0 1000 (tagLine 20230328)) []
+    ∷ []
+
+-- two rows of two securities, masked, settled, final, paid on the next open day and without amounts; Record Dates on the day;
+-- a Beneficiary Date after the day
+apartCloses : List CloseRow
+apartCloses =
+    close-row apartTables 20230331 (3 ∷ 3 ∷ 2 ∷ 1 ∷ 0 ∷ 0 ∷ 0 ∷ 40000 ∷ 0 ∷ 0 ∷ 0
+    ∷ 3 ∷ 0 ∷ 1 ∷ 2 ∷ 0 ∷ 0 ∷ 0 ∷ 30000 ∷ 0 ∷ 20230417 ∷ 3
+    ∷ 3 ∷ 2 ∷ 2 ∷ 1 ∷ 0 ∷ 1 ∷ 0 ∷ 12000 ∷ 2000000 ∷ 0 ∷ 0
+    ∷ 3 ∷ 2 ∷ 1 ∷ 2 ∷ 0 ∷ 1 ∷ 0 ∷ 9000 ∷ 1500000 ∷ 0 ∷ 0
+    ∷ 3 ∷ 0 ∷ 15 ∷ 0 ∷ 3 ∷ 0 ∷ 0 ∷ 699 ∷ 24975 ∷ 20230403 ∷ 1
+    ∷ 3 ∷ 0 ∷ 1 ∷ 4 ∷ 3 ∷ 0 ∷ 0 ∷ 700000000 ∷ 25000000000 ∷ 20230403 ∷ 1
+    ∷ 3 ∷ 1 ∷ 15 ∷ 0 ∷ 3 ∷ 1 ∷ 0 ∷ 0 ∷ 0 ∷ 0 ∷ 0
+    ∷ 3 ∷ 1 ∷ 1 ∷ 4 ∷ 3 ∷ 1 ∷ 0 ∷ 0 ∷ 0 ∷ 0 ∷ 0 ∷ [])
+    ∷ close-row apartTables 20230403 []
+    ∷ close-row apartTables 20230410 []
+    ∷ []
+
+-- ---- the theorems
+
+-- what the rows are computed from
+unfoldable computed : ℕ
+unfolding tagLine blank sent sameBytes all bytesOf numberOf encode select lastOf each eachOf leapDay monthLength isDate wordOf dateOf lengthOf bitOn lowestFrom seekFrom openAt openAfter openFrom isWeekday weekdayWord weekdaysFrom weekdays claimKind recordBytes claimValues transferOf firstLine secondLine securityOf typeOf frequencyOf rowOf rowsFrom rowsOf isEmpty isFilled filledRows caseTables opener same openersFrom openers endIn endFrom isDigit digitsAfter digitsNumber writesDate tagHolding tagAt tagOf tagged contractDate isSeveral isUnended isNotDate editCauses centsOn amount outcomeOf isLate releaseOf isEarly slotOf claimOn messageTag maximumNumbers maximumFor eligibleIn eligible fails dues transferParties transferClaims crosses crossed loanParties loanClaim securityBalances lenderBalances rowClaims closeClaims claimBytes bytesOfAll claimed maximaOf
+computed = 0
 
 rows-hold :
     all (λ r. sameBytes (bytesOfAll (transferClaims weekdays (r .tables) (r .day) 9 (transferOf (r .message)) (messageTag (r .message)))) (r .claims)) transfers
     && all (λ r. sameBytes (bytesOfAll (closeClaims weekdays (r .tables) (r .day) balances)) (r .claims)) closes
     && maxima ≡ true
-unfolding tagLine blank sent manyTables balances transfers closes sameBytes maxima all bytesOf numberOf encode select lastOf each eachOf leapDay monthLength isDate wordOf dateOf lengthOf bitOn lowestFrom seekFrom openAt openAfter openFrom isWeekday weekdayWord weekdaysFrom weekdays claimKind recordBytes claimValues transferOf firstLine secondLine securityOf typeOf frequencyOf rowOf rowsFrom rowsOf isEmpty isFilled filledRows caseTables opener same openersFrom openers endIn endFrom isDigit digitsAfter digitsNumber writesDate tagHolding tagAt tagOf tagged contractDate isSeveral isUnended isNotDate editCauses centsOn amount outcomeOf isLate releaseOf isEarly slotOf claimOn messageTag maximumNumbers maximumFor eligibleIn eligible fails dues transferParties transferClaims crosses crossed loanParties loanClaim securityBalances lenderBalances rowClaims closeClaims claimBytes bytesOfAll
+unfolding computed manyTables balances transfers closes maxima
 rows-hold = refl
+
+apart-rows-hold :
+    all (λ r. sameBytes (claimed (transferClaims weekdays (r .tables) (r .day) 9 (transferOf (r .message)) (messageTag (r .message)))) (r .claims)) apartTransfers
+    && all (λ r. sameBytes (claimed (closeClaims weekdays (r .tables) (r .day) loans)) (r .claims)) apartCloses ≡ true
+unfolding computed apartTables loans apartTransfers apartCloses
+apart-rows-hold = refl

@@ -7,3 +7,4 @@ pub mod Theorem
 pub mod Rows
 pub mod Answers
 pub mod StaysSound
+pub mod ByValue

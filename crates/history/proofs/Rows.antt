@@ -1,6 +1,7 @@
--- Computed rows: the number of a call where two neighbouring causes apply, each by its own, and where none does, at full size.
+-- Computed rows: the number of a call where two neighbouring causes apply, each by its own, and where none does, at full size; and the
+-- answers of a list of calls with all their bytes.
 use mathlib.Core.Path.{_≡_, refl}
-use mathlib.Core.Bool.{Bool, true, _&&_}
+use mathlib.Core.Bool.{Bool, true, false, _&&_}
 use mathlib.Core.List.{List, [], _∷_, _++_}
 use Prim.Native.Nat.{ℕ, _+_, _/_, _%_}
 use lib.Dec.{eqb}
@@ -29,7 +30,7 @@ use Rattle.book.specs.Loans.{increasing, decreasing, bySender, byReceiver, chan
 use Rattle.book.specs.Soundness.{wrongLength, badDay, goodBalance, goodBalancesFrom, badBalances, tableCauses, bookCauses, openingCauses}
 use Rattle.history.specs.Calls.{Call, transfer, close, bufferOf, claimsOf}
 use Rattle.history.specs.Causes.{recordCauses, outOfRange, fieldCauses, countCauses, lastDayCauses, roomCauses, transferCauses, callCauses, causes, numberFor, openingNumber}
-use Rattle.history.specs.Results.{openedFor, opened}
+use Rattle.history.specs.Results.{Answer, nextBook, nextBalances, resultFor, result, openedFor, opened, run, runFrom}
 
 -- ---- messages
 
@@ -79,6 +80,14 @@ zeros = replicate 4096 0
 -- account 1 has lent account 2 40,000 in security 0
 held : List ℕ
 held = set zeros 18 40000
+
+-- account 1 has lent account 2 100 less than the largest balance
+near : List ℕ
+near = set zeros 18 8999999900
+
+-- security 15 is an annual Treasury with one row
+lastTables : List ℕ
+lastTables = replicate 1710 0 ++ ((1 ∷ 4 ∷ 20230401 ∷ 20230401 ∷ 20230415 ∷ 5000000 ∷ []) ++ replicate 108 0)
 
 -- a Record Date on the last open day
 lateTables : List ℕ
@@ -151,6 +160,18 @@ rows =
     row weekdays caseTables 20230404 0 held (sent 1 2 1 0 0 3 40001 blank 35) 7
     ∷  -- the whole balance
     row weekdays caseTables 20230404 0 held (sent 1 2 1 0 0 3 40000 blank 35) 0
+    ∷  -- code 6
+    row weekdays caseTables 20230404 0 held (sent 1 2 1 0 0 6 40000 blank 35) 0
+    ∷  -- past the limit
+    row weekdays caseTables 20230404 0 near (sent 1 1 2 0 0 1 101 blank 35) 8
+    ∷  -- up to the limit
+    row weekdays caseTables 20230404 0 near (sent 1 1 2 0 0 1 100 blank 35) 0
+    ∷  -- the last account as sender, the last security
+    row weekdays lastTables 20230404 0 zeros (sent 1 15 0 15 0 0 1 (tagLine 20230315) 35) 0
+    ∷  -- the last account as receiver, room for no claim
+    row weekdays lastTables 20230404 0 zeros (sent 1 0 15 15 0 0 1 (tagLine 20230315) 34) 10
+    ∷  -- the last transfer that is numbered
+    row weekdays caseTables 20230404 4294967294 zeros (sent 1 1 2 0 0 0 200000 (tagLine 20230315) 35) 0
     ∷  -- room for no claim
     row weekdays caseTables 20230404 0 zeros (sent 1 1 2 0 0 0 200000 (tagLine 20230315) 34) 10
     ∷  -- no claims need no room
@@ -181,6 +202,78 @@ opening day number returned balance =
 openings : Bool
 openings = opening 20230404 0 20230404 0 && opening 20230401 4 20000101 7 && opening 20391230 4 20000101 7
 
+-- ---- a list of calls
+
+-- the Beneficiary Date lies before the opening's day and the Record Date after it
+apartTables : List ℕ
+apartTables = (3 ∷ 1 ∷ 20230403 ∷ 20230330 ∷ 20230417 ∷ 5000000 ∷ []) ++ replicate 1818 0
+
+-- a call that finds sevens in its claim buffer
+onSevens : Call → Call
+onSevens (transfer a) = transfer (record { message = a .message; buffer = replicate (length (a .buffer)) 7 })
+onSevens (close a) = close (record { message = a .message; buffer = replicate (length (a .buffer)) 7 })
+
+-- a loan, a fail, a refused fail, a close without room, the close that crosses the Record Date, a second fail, a return and a close
+calls : List Call
+calls =
+    onSevens (sent 1 1 2 0 0 1 40000 blank 36)
+    ∷ onSevens (sent 1 3 4 0 0 0 200000 (tagLine 20230329) 36)
+    ∷ onSevens (sent 1 3 4 0 0 0 100000001 (tagLine 20230329) 36)
+    ∷ onSevens (closing 2 34)
+    ∷ onSevens (closing 2 36)
+    ∷ onSevens (sent 1 3 4 0 0 0 200000 (tagLine 20230329) 36)
+    ∷ onSevens (sent 1 2 1 0 0 6 15000 blank 36)
+    ∷ onSevens (closing 2 36)
+    ∷ []
+
+-- number, day, count, claim count and claim buffer of each answer
+answered : List Answer → List ℕ
+answered [] = []
+answered (a ∷ answers) = a .number ∷ a .book .day ∷ a .book .count ∷ a .claims ∷ (a .buffer ++ answered answers)
+
+-- 36 sevens
+found : List ℕ
+found = replicate 36 7
+
+expected : List ℕ
+expected =
+    (0 ∷ 20230331 ∷ 1 ∷ 0 ∷ [])
+    ++ (found
+    ++ ((0 ∷ 20230331 ∷ 2 ∷ 1 ∷ 33 ∷ 0 ∷ 3 ∷ 0 ∷ 1 ∷ 0 ∷ 3 ∷ 4 ∷ 0 ∷ 0 ∷ 2 ∷ 0 ∷ 0 ∷ 0 ∷ 160 ∷ 134 ∷ 1 ∷ 0 ∷ 0 ∷ 0 ∷ 0 ∷ 0 ∷ 0 ∷ 0 ∷ 0 ∷ 0 ∷ 0 ∷ 0 ∷ 0 ∷ 0 ∷ 17 ∷ 177 ∷ 52 ∷ 1 ∷ 3 ∷ 7
+    ∷ 6 ∷ 20230331 ∷ 2 ∷ 0 ∷ [])
+    ++ (found
+    ++ ((10 ∷ 20230331 ∷ 2 ∷ 0 ∷ [])
+    ++ (replicate 34 7
+    ++ ((0 ∷ 20230403 ∷ 2 ∷ 1 ∷ 33 ∷ 0 ∷ 3 ∷ 0 ∷ 3 ∷ 0 ∷ 2 ∷ 1 ∷ 0 ∷ 0 ∷ 0 ∷ 0 ∷ 0 ∷ 0 ∷ 32 ∷ 78 ∷ 0 ∷ 0 ∷ 0 ∷ 0 ∷ 0 ∷ 0 ∷ 0 ∷ 0 ∷ 0 ∷ 0 ∷ 0 ∷ 0 ∷ 0 ∷ 0 ∷ 17 ∷ 177 ∷ 52 ∷ 1 ∷ 3 ∷ 7
+    ∷ 0 ∷ 20230403 ∷ 3 ∷ 1 ∷ 33 ∷ 0 ∷ 3 ∷ 0 ∷ 1 ∷ 0 ∷ 3 ∷ 4 ∷ 0 ∷ 0 ∷ 3 ∷ 0 ∷ 0 ∷ 0 ∷ 160 ∷ 134 ∷ 1 ∷ 0 ∷ 0 ∷ 0 ∷ 0 ∷ 0 ∷ 0 ∷ 0 ∷ 0 ∷ 0 ∷ 0 ∷ 0 ∷ 0 ∷ 0 ∷ 17 ∷ 177 ∷ 52 ∷ 1 ∷ 3 ∷ 7
+    ∷ 0 ∷ 20230403 ∷ 4 ∷ 0 ∷ [])
+    ++ (found
+    ++ ((0 ∷ 20230404 ∷ 4 ∷ 0 ∷ []) ++ found))))))))
+
+sameNumbers : List ℕ → List ℕ → Bool
+sameNumbers [] [] = true
+sameNumbers [] (y ∷ ys) = false
+sameNumbers (x ∷ xs) [] = false
+sameNumbers (x ∷ xs) (y ∷ ys) = eqb x y && sameNumbers xs ys
+
+-- the answers, and the day, count and balances after the list
+history : Bool
+history =
+    let r = runFrom weekdays apartTables (opened weekdays apartTables sevens 20230331) calls in
+    sameNumbers (answered (r .answers)) expected && eqb (r .book .day) 20230404 && eqb (r .book .count) 4
+    && sameNumbers (r .balances) (set zeros 18 25000)
+
+-- ---- the theorems
+
+-- what the rows are computed from
+unfoldable computed : ℕ
+unfolding tag line tagLine blank twoTags openTag badTag sent closing zeros below all bytesOf numberOf total encode decode firstOf sum select lastOf tabulate each eachOf leapDay monthLength isDate wordOf dateOf lengthOf bitOn badFrom badCalendar isOpen lowestFrom seekFrom openAt openAfter openFrom highestBelow lastBelow lastOpen isWeekday weekdayWord weekdaysFrom weekdays transferKind closeKind claimKind size recordBytes claimValues transferOf firstLine secondLine headed header reads securityOf typeOf frequencyOf rowOf rowsFrom rowsOf isEmpty isFilled filledRows goodRow goodRows goodSecurity goodTables caseTables opener same tagged openersFrom openers endIn endFrom isDigit digitsAfter digitsNumber writesDate tagHolding tagAt tagOf contractDate isSeveral isUnended isNotDate editCauses centsOn amount outcomeOf isLate releaseOf isEarly slotOf claimOn messageTag maximumNumbers maximumFor eligibleIn eligible fails dues transferParties transferClaims crosses crossed loanParties loanClaim securityBalances lenderBalances rowClaims closeClaims claimBytes bytesOfAll written word position balanceAt layout increasing decreasing bySender byReceiver changeOf changed aboveBalance pastLimit wrongLength badDay goodBalance goodBalancesFrom badBalances tableCauses bookCauses openingCauses bufferOf claimsOf recordCauses outOfRange fieldCauses countCauses loanCauses lastDayCauses roomCauses transferCauses callCauses causes numberFor openingNumber openedFor opened sevens nextBook nextBalances resultFor result run runFrom
+computed = 0
+
 rows-hold : openings && all (λ r. eqb (numberFor (r .calendar) (r .tables) (r .book) (r .balances) (r .call)) (r .number)) rows ≡ true
-unfolding tag line tagLine blank twoTags openTag badTag sent closing zeros held lateTables rows below all bytesOf numberOf total encode decode firstOf sum select lastOf tabulate each eachOf leapDay monthLength isDate wordOf dateOf lengthOf bitOn badFrom badCalendar isOpen lowestFrom seekFrom openAt openAfter openFrom highestBelow lastBelow lastOpen isWeekday weekdayWord weekdaysFrom weekdays transferKind closeKind claimKind size recordBytes claimValues transferOf firstLine secondLine headed header reads securityOf typeOf frequencyOf rowOf rowsFrom rowsOf isEmpty isFilled filledRows goodRow goodRows goodSecurity goodTables caseTables opener same tagged openersFrom openers endIn endFrom isDigit digitsAfter digitsNumber writesDate tagHolding tagAt tagOf contractDate isSeveral isUnended isNotDate editCauses centsOn amount outcomeOf isLate releaseOf isEarly slotOf claimOn messageTag maximumNumbers maximumFor eligibleIn eligible fails dues transferParties transferClaims crosses crossed loanParties loanClaim securityBalances lenderBalances rowClaims closeClaims claimBytes bytesOfAll written word position balanceAt layout increasing decreasing bySender byReceiver changeOf changed aboveBalance pastLimit wrongLength badDay goodBalance goodBalancesFrom badBalances tableCauses bookCauses openingCauses bufferOf claimsOf recordCauses outOfRange fieldCauses countCauses loanCauses lastDayCauses roomCauses transferCauses callCauses causes numberFor openingNumber openedFor opened sevens opening openings
+unfolding computed held near lastTables lateTables rows opening openings
 rows-hold = refl
+
+history-holds : history ≡ true
+unfolding computed apartTables onSevens calls answered found expected sameNumbers history
+history-holds = refl

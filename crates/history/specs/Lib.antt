@@ -4,3 +4,4 @@ pub mod Results
 pub mod Ledger
 pub mod Owed
 pub mod Statement
+pub mod ByValue

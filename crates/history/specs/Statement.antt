@@ -4,7 +4,8 @@
 -- the ledger of accepted calls. For any two accounts and security the par lent and the accepted decreases together are the accepted
 -- increases. The records, read back from the claim buffers, add up, for every payer, payee, security and row, and for every payer,
 -- payee and security, to what the history owes, interest and principal apart. Every Record Date passed is crossed exactly once, no
--- transfer claims a Beneficiary Date twice, and a call is refused exactly when a cause of its table applies, and then changes nothing.
+-- transfer claims a Beneficiary Date twice, no close claims a row twice, and a call is refused exactly when a cause of its table
+-- applies, and then changes nothing.
 use mathlib.Core.Path.{_≡_}
 use mathlib.Core.Logic.{_↔_, _≢_}
 use mathlib.Core.Bool.{Bool, true, cond, _&&_}
@@ -24,7 +25,7 @@ use Rattle.securities.specs.Securities.{Row}
 use Rattle.tags.specs.declared.Tag.{Tag}
 use Rattle.claims.specs.Amounts.{Part, ofInterest, ofPrincipal, Parties}
 use Rattle.claims.specs.Fails.{dues}
-use Rattle.claims.specs.Close.{crosses}
+use Rattle.claims.specs.Close.{crosses, crossed}
 use Rattle.claims.specs.Written.{claimSize, readings, AllRead}
 use Rattle.book.specs.Book.{Position, InRange}
 use Rattle.history.specs.Calls.{Call, transfer, close, bufferOf}
@@ -126,6 +127,8 @@ pub record AgreesWithLedger (calendar tables : List ℕ) (start : ℕ) (calls : 
   -- The rows that the next transfer claims rise in Beneficiary Date, so none is claimed twice.
   pub dates-once : (t : Transfer) (tag : Tag) → t .security < 16
       → rising (λ row. row .beneficiaryDate) (map (λ d. d .row) (dues tables (j .ledger .day) t tag)) ≡ true
+  -- The rows that the next close crosses rise in Record Date, so none is claimed twice in it.
+  pub rows-once : (s : ℕ) → s < 16 → rising (λ row. row .recordDate) (crossed calendar tables (j .ledger .day) s) ≡ true
   -- The next call is accepted exactly when no cause of its table applies; refused, it leaves the ledger as it was.
   pub accepted : (call : Call)
       → (numberOn calendar tables (j .ledger) call ≡ 0) ↔ NoneApplies (causes calendar tables (bookOf (j .ledger)) (balancesOf (j .ledger)) call)

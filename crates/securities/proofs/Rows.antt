@@ -31,10 +31,13 @@ edits =
     ∷ row 1 0 0
     ∷ row 1 4 1
     ∷ row 1 5 0
+    ∷ row 2 20230402 1
     ∷ row 2 20230431 0
     ∷ row 3 0 0
+    ∷ row 3 20230402 1
     ∷ row 4 20230331 0
     ∷ row 4 20230401 1
+    ∷ row 4 20230431 0
     ∷ row 4 20391230 1
     ∷ row 4 20391231 0
     ∷ row 5 2000000000 1
@@ -71,6 +74,22 @@ others =
     && eqb (length caseTables) 1824
     && eqb (length (filledRows caseTables 0)) 2
     && eqb (length (filledRows caseTables 15)) 0
+
+-- seven words and a number, each in its field
+words-of-row :
+    rowOf 4 (20230401 ∷ 20230402 ∷ 20230415 ∷ 5000000 ∷ 250000000 ∷ 1 ∷ 6 ∷ [])
+    ≡ record {
+      index = 4;
+      recordDate = 20230401;
+      beneficiaryDate = 20230402;
+      paymentDate = 20230415;
+      interestFactor = 5000000;
+      principalFactor = 250000000;
+      final = 1;
+      mask = 6;
+    }
+unfolding rowOf
+words-of-row = refl
 
 second-row : filledRows caseTables 0 ≡ rowOf 0 (drop 2 caseTables) ∷ rowOf 1 (drop 9 caseTables) ∷ []
 unfolding filledRows caseTables securityOf rowsOf rowsFrom rowOf isEmpty isFilled select

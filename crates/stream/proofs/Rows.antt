@@ -1,11 +1,12 @@
 -- Computed rows: what inputs begin with, and document 01's hex example as a stream, at full size: its claim and answer, the answer to a
--- close, and a 5 for what stands behind them; then the same bytes where more may follow, and in an output without room.
+-- close, and a 5 for what stands behind them; then the same bytes where more may follow, and in an output without room;
+-- and closes whose claims fill more than half of the claim buffer, and more than all of it.
 use mathlib.Core.Path.{_≡_, refl}
 use mathlib.Core.Bool.{Bool, true, false, cond, not, _&&_}
 use mathlib.Core.List.{List, [], _∷_, _++_}
-use Prim.Native.Nat.{ℕ}
+use Prim.Native.Nat.{ℕ, zero, suc, _+_, _-_, _*_}
 use lib.Dec.{eqb}
-use lib.ListN.{replicate, take}
+use lib.ListN.{length, replicate, take, drop}
 use Rattle.lists.specs.Tests.{below}
 use Rattle.lists.specs.All.{all}
 use Rattle.lists.specs.Numbers.{bytesOf, numberOf}
@@ -111,6 +112,58 @@ runs =
     && sameRun (serving weekdays caseTables true book (replicate 4096 0) input 65582) 20230404 1 141 example false
     && sameBytes (streamBytes weekdays caseTables book (replicate 4096 0) input) (example ++ (accepted ++ five))
 
+-- ---- closes with many claims
+
+-- n rows of a security from 1 April 2023 on
+paymentRows : ℕ → List ℕ
+paymentRows zero = []
+paymentRows (suc n) = paymentRows n ++ ((20230401 + n) ∷ (20230401 + n) ∷ 20230415 ∷ 5000000 ∷ (1000000 + n * 1000000) ∷ 0 ∷ 0 ∷ [])
+
+-- an agency MBS with two or three rows
+twoRows : List ℕ
+twoRows = (3 ∷ 1 ∷ []) ++ (paymentRows 2 ++ replicate 98 0)
+
+threeRows : List ℕ
+threeRows = (3 ∷ 1 ∷ []) ++ (paymentRows 3 ++ replicate 91 0)
+
+-- n lenders have lent every other account 1,000
+lenders : ℕ → List ℕ
+lenders zero = []
+lenders (suc n) = lenders n ++ (replicate n 1000 ++ (0 ∷ replicate (15 - n) 1000))
+
+friday : Book
+friday = record { day = 20230331; count = 0 }
+
+-- two rows of two securities, 240 loans in each: 960 claims, 33,600 bytes
+many : Bool
+many =
+    let bytes = streamBytes weekdays (twoRows ++ (twoRows ++ replicate 1596 0)) friday (lenders 16 ++ (lenders 16 ++ replicate 3584 0)) closing in
+    eqb (length bytes) 33606
+    && eqb (sum (λ b. b) bytes) 672008
+    && sameBytes (take 35 bytes)
+    (33 ∷ 0 ∷ 3 ∷ 0 ∷ 3 ∷ 0 ∷ 1 ∷ 0 ∷ 0 ∷ 0 ∷ 0 ∷ 0 ∷ 0 ∷ 0 ∷ 244 ∷ 1 ∷ 0 ∷ 0 ∷ 0 ∷ 0 ∷ 0 ∷ 0 ∷ 100 ∷ 0 ∷ 0 ∷ 0 ∷ 0 ∷ 0 ∷ 0 ∷ 0 ∷ 17 ∷ 177 ∷ 52 ∷ 1 ∷ 3 ∷ [])
+    && sameBytes (drop 33565 bytes)
+    ((33 ∷ 0 ∷ 3 ∷ 0 ∷ 3 ∷ 0 ∷ 14 ∷ 15 ∷ 1 ∷ 1 ∷ 0 ∷ 0 ∷ 0 ∷ 0 ∷ 244 ∷ 1 ∷ 0 ∷ 0 ∷ 0 ∷ 0 ∷ 0 ∷ 0 ∷ 200 ∷ 0 ∷ 0 ∷ 0 ∷ 0 ∷ 0 ∷ 0 ∷ 0 ∷ 17 ∷ 177 ∷ 52 ∷ 1 ∷ 3 ∷ []) ++ accepted)
+
+-- three rows of three securities: 2,160 claims, for which 64 KiB have no room
+tooMany : Bool
+tooMany =
+    sameBytes
+    (streamBytes weekdays (threeRows ++ (threeRows ++ (threeRows ++ replicate 1482 0))) friday
+    (lenders 16 ++ (lenders 16 ++ (lenders 16 ++ replicate 3328 0))) closing)
+    (4 ∷ 0 ∷ 4 ∷ 0 ∷ 10 ∷ 0 ∷ [])
+
+-- ---- the theorems
+
+-- what the rows are computed from
+unfoldable computed : ℕ
+unfolding below all each tabulate closing accepted sameBytes book bytesOf numberOf total encode decode firstOf sum select lastOf eachOf leapDay monthLength isDate wordOf dateOf lengthOf bitOn badFrom badCalendar isOpen lowestFrom seekFrom openAt openAfter openFrom highestBelow lastBelow lastOpen isWeekday weekdayWord weekdaysFrom weekdays transferKind closeKind claimKind size recordBytes claimValues transferOf firstLine secondLine headed reads securityOf typeOf frequencyOf rowOf rowsFrom rowsOf isEmpty isFilled filledRows goodRow goodRows goodSecurity goodTables caseTables opener same tagged openersFrom openers endIn endFrom isDigit digitsAfter digitsNumber writesDate tagHolding tagAt tagOf contractDate isSeveral isUnended isNotDate editCauses centsOn amount outcomeOf isLate releaseOf isEarly slotOf claimOn messageTag maximumNumbers maximumFor eligibleIn eligible fails dues transferParties transferClaims crosses crossed loanParties loanClaim securityBalances lenderBalances rowClaims closeClaims claimBytes bytesOfAll written word position balanceAt increasing decreasing bySender byReceiver changeOf changed aboveBalance pastLimit wrongLength badDay goodBalance goodBalancesFrom badBalances tableCauses bookCauses bufferOf claimsOf recordCauses outOfRange fieldCauses countCauses loanCauses lastDayCauses roomCauses transferCauses callCauses causes numberFor nextBook nextBalances resultFor result run header unready next callWith callFor answerBytes emitted emittedAll onNext added split callsOf ending streamBytes stopped endedByFive after serveUpTo serving answerKind
+computed = 0
+
 rows-hold : begins && runs ≡ true
-unfolding below all each tabulate message closing example accepted five sameNext begins sameBytes book input sameRun runs bytesOf numberOf total encode decode firstOf sum select lastOf eachOf leapDay monthLength isDate wordOf dateOf lengthOf bitOn badFrom badCalendar isOpen lowestFrom seekFrom openAt openAfter openFrom highestBelow lastBelow lastOpen isWeekday weekdayWord weekdaysFrom weekdays transferKind closeKind claimKind size recordBytes claimValues transferOf firstLine secondLine headed reads securityOf typeOf frequencyOf rowOf rowsFrom rowsOf isEmpty isFilled filledRows goodRow goodRows goodSecurity goodTables caseTables opener same tagged openersFrom openers endIn endFrom isDigit digitsAfter digitsNumber writesDate tagHolding tagAt tagOf contractDate isSeveral isUnended isNotDate editCauses centsOn amount outcomeOf isLate releaseOf isEarly slotOf claimOn messageTag maximumNumbers maximumFor eligibleIn eligible fails dues transferParties transferClaims crosses crossed loanParties loanClaim securityBalances lenderBalances rowClaims closeClaims claimBytes bytesOfAll written word position balanceAt increasing decreasing bySender byReceiver changeOf changed aboveBalance pastLimit wrongLength badDay goodBalance goodBalancesFrom badBalances tableCauses bookCauses bufferOf claimsOf recordCauses outOfRange fieldCauses countCauses loanCauses lastDayCauses roomCauses transferCauses callCauses causes numberFor nextBook nextBalances resultFor result run header unready next callWith callFor answerBytes emitted emittedAll onNext added split callsOf ending streamBytes stopped endedByFive after serveUpTo serving answerKind
+unfolding computed message example five sameNext begins input sameRun runs
 rows-hold = refl
+
+many-claims-hold : many && tooMany ≡ true
+unfolding computed paymentRows twoRows threeRows lenders friday many tooMany
+many-claims-hold = refl
