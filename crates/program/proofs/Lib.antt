@@ -4,3 +4,4 @@ pub mod Theorem
 pub mod Moves
 pub mod Coded
 pub mod Loop
+pub mod Rows

@@ -41,24 +41,24 @@ use Rattle.stream.specs.Serving.{Serving, stopped, endedByFive, after, s
 -- ---- bytes
 
 -- the first case's transfer from account 1 to 2 in security 0, class and code 0, par 200,000, with Contract Date 20230315
-message : List ℕ
+unfoldable pub message : List ℕ
 message =
     (139 ∷ 0 ∷ 1 ∷ 0 ∷ 1 ∷ 2 ∷ 0 ∷ 0 ∷ 0 ∷ 64 ∷ 13 ∷ 3 ∷ 0 ∷ [])
     ++ ((123 ∷ 57 ∷ 56 ∷ 65 ∷ 58 ∷ 67 ∷ 78 ∷ 84 ∷ 82 ∷ 47 ∷ 50 ∷ 48 ∷ 50 ∷ 51 ∷ 48 ∷ 51 ∷ 49 ∷ 53 ∷ 125 ∷ []) ++ replicate 109 32)
 
-closing : List ℕ
+unfoldable pub closing : List ℕ
 closing = 2 ∷ 0 ∷ 2 ∷ 0 ∷ []
 
 -- document 01's hex example
-example : List ℕ
+unfoldable pub example : List ℕ
 example =
     33 ∷ 0 ∷ 3 ∷ 0 ∷ 1 ∷ 0 ∷ 1 ∷ 2 ∷ 0 ∷ 0 ∷ 1 ∷ 0 ∷ 0 ∷ 0 ∷ 160 ∷ 134 ∷ 1 ∷ 0 ∷ 0 ∷ 0 ∷ 0 ∷ 0 ∷ 0 ∷ 0 ∷ 0 ∷ 0 ∷ 0 ∷ 0 ∷ 0 ∷ 0 ∷ 17 ∷ 177 ∷ 52 ∷ 1 ∷ 3
     ∷ 4 ∷ 0 ∷ 4 ∷ 0 ∷ 0 ∷ 0 ∷ []
 
-accepted : List ℕ
+unfoldable pub accepted : List ℕ
 accepted = 4 ∷ 0 ∷ 4 ∷ 0 ∷ 0 ∷ 0 ∷ []
 
-five : List ℕ
+unfoldable pub five : List ℕ
 five = 4 ∷ 0 ∷ 4 ∷ 0 ∷ 5 ∷ 0 ∷ []
 
 -- ---- what inputs begin with
@@ -87,7 +87,7 @@ begins =
 
 -- ---- the hex example
 
-sameBytes : List ℕ → List ℕ → Bool
+unfoldable pub sameBytes : List ℕ → List ℕ → Bool
 sameBytes [] [] = true
 sameBytes [] (y ∷ ys) = false
 sameBytes (x ∷ xs) [] = false
@@ -156,7 +156,7 @@ tooMany =
 -- ---- the theorems
 
 -- what the rows are computed from
-unfoldable computed : ℕ
+unfoldable pub computed : ℕ
 unfolding below all each tabulate closing accepted sameBytes book bytesOf numberOf total encode decode firstOf sum select lastOf eachOf leapDay monthLength isDate wordOf dateOf lengthOf bitOn badFrom badCalendar isOpen lowestFrom seekFrom openAt openAfter openFrom highestBelow lastBelow lastOpen isWeekday weekdayWord weekdaysFrom weekdays transferKind closeKind claimKind size recordBytes claimValues transferOf firstLine secondLine headed reads securityOf typeOf frequencyOf rowOf rowsFrom rowsOf isEmpty isFilled filledRows goodRow goodRows goodSecurity goodTables caseTables opener same tagged openersFrom openers endIn endFrom isDigit digitsAfter digitsNumber writesDate tagHolding tagAt tagOf contractDate isSeveral isUnended isNotDate editCauses centsOn amount outcomeOf isLate releaseOf isEarly slotOf claimOn messageTag maximumNumbers maximumFor eligibleIn eligible fails dues transferParties transferClaims crosses crossed loanParties loanClaim securityBalances lenderBalances rowClaims closeClaims claimBytes bytesOfAll written word position balanceAt increasing decreasing bySender byReceiver changeOf changed aboveBalance pastLimit wrongLength badDay goodBalance goodBalancesFrom badBalances tableCauses bookCauses bufferOf claimsOf recordCauses outOfRange fieldCauses countCauses loanCauses lastDayCauses roomCauses transferCauses callCauses causes numberFor nextBook nextBalances resultFor result run header unready next callWith callFor answerBytes emitted emittedAll onNext added split callsOf ending streamBytes stopped endedByFive after serveUpTo serving answerKind
 computed = 0
 
