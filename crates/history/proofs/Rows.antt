@@ -213,7 +213,8 @@ onSevens : Call → Call
 onSevens (transfer a) = transfer (record { message = a .message; buffer = replicate (length (a .buffer)) 7 })
 onSevens (close a) = close (record { message = a .message; buffer = replicate (length (a .buffer)) 7 })
 
--- a loan, a fail, a refused fail, a close without room, the close that crosses the Record Date, a second fail, a return and a close
+-- a loan, a failed transfer, one refused for its par, a close without room, the close that crosses the Record Date, a second failed
+-- transfer, a balance-only decrease and a close
 calls : List Call
 calls =
     onSevens (sent 1 1 2 0 0 1 40000 blank 36)
