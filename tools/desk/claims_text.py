@@ -108,7 +108,7 @@ def show(form, output, name, book=None, calls=None, tick=lambda count: None):
         output.seek(0)
         return claims.numbered(claims.records(output, name), calls() if calls is not None else None)
 
-    for _ in claims.records(output, name):
+    for _ in numbered():
         pass
     pieces = {"text": text, "csv": as_csv, "json": as_json}[form](numbered, book, names)
     for count, piece in enumerate(pieces):

@@ -5,7 +5,7 @@ import shutil
 import sys
 import tempfile
 
-from . import board, book, book_text, claims_text, files, layout, message_text, messages, running
+from . import board, book, book_text, checking, claims_text, files, layout, message_text, messages, running
 from .errors import Fault
 from .names import Names
 from .sources import Source
@@ -84,11 +84,35 @@ def spooled(path):
 
 
 def claims_show(args):
+    """A failed check is told once the records are shown; a file is not written then."""
     given = book.read(args.book) if args.book is not None else None
     name = args.file or "standard input"
     with spooled(args.file) as output:
-        paths = ([args.file] if args.file else []) + (given.paths if given else [])
+        fault = messages_fault(args.messages, output, name)
+        if fault is not None and args.output is not None:
+            raise fault
+        paths = [path for path in (args.file, args.messages) if path] + (given.paths if given else [])
         files.write(args.output, claims_text.show(args.format, output, name, given), paths)
+    if fault is not None:
+        raise fault
+
+
+def messages_fault(path, output, name):
+    """What is wrong with the output as the answers to a file of messages; None where nothing is, or where no file is given."""
+    if path is None:
+        return None
+    with spooled(path) as sent:
+        try:
+            checking.check(layout.messages(sent), output, name)
+        except Fault as fault:
+            return fault
+    return None
+
+
+def claims_check(args):
+    with spooled(args.messages) as sent, spooled(args.claims) as output:
+        found = checking.check(layout.messages(sent), output, args.claims)
+    files.write(args.output, [(found.words() + "\n").encode("utf-8")], [args.messages, args.claims])
 
 
 def run(args):
@@ -145,11 +169,15 @@ def parser():
     made = command(group, "show", messages_show, "show message records as a source that makes the same bytes")
     made.add_argument("file", metavar="FILE", nargs="?", help="records (standard input)")
     made.add_argument("--format", choices=("toml", "csv"), default="toml")
-    group = pair("claims", "show claimrun's output")
+    group = pair("claims", "show claimrun's output, or check it against the messages")
     made = command(group, "show", claims_show, "show the claims and answers that claimrun wrote")
     made.add_argument("file", metavar="FILE", nargs="?", help="claimrun's output (standard input)")
     made.add_argument("--book", metavar="book.dat|SOURCE.toml", help="take Beneficiary Dates and names from this book")
+    made.add_argument("--messages", metavar="FILE", help="fail where the output does not answer these message records")
     made.add_argument("--format", choices=claims_text.FORMATS, default="text")
+    made = command(group, "check", claims_check, "see that claimrun's output answers each message, and is not cut")
+    made.add_argument("messages", metavar="MESSAGES", help="the message records that were sent")
+    made.add_argument("claims", metavar="CLAIMS", help="claimrun's output")
     made = command(groups, "run", run, "make book and messages, run claimrun and show its claims")
     made.add_argument("source", metavar="SOURCE.toml")
     made.add_argument("--format", choices=claims_text.FORMATS, default="text")

@@ -4,7 +4,7 @@ import subprocess
 import sys
 import time
 
-from . import claims, layout, messages
+from . import checking, layout, messages
 from .errors import Fault
 
 ROOT = os.path.dirname(os.path.dirname(os.path.dirname(os.path.realpath(__file__))))
@@ -100,14 +100,7 @@ class Run:
         """Runs claimrun and sees that each message got its answer."""
         run(self.path, self.folder, self.progress)
         with self.output() as output:
-            answered = stopped = 0
-            for record in claims.records(output, "claimrun's output"):
-                if isinstance(record, layout.Answer):
-                    answered += 1
-                    stopped = record.number in claims.BOOK_ANSWERS or record.number == claims.LAST_ANSWER
-        sent = sum(1 for _ in self.calls())
-        if not stopped and answered != sent:
-            raise Fault(self.path, "claimrun answered %d of %d messages" % (answered, sent))
+            checking.check(self.calls(), output, "claimrun's output")
 
     def output(self):
         """claimrun's output as a file."""

@@ -72,7 +72,7 @@ class Runs(common.Desk):
     def test_another_program_in_its_place(self):
         source = self.file("s.toml", BOOK + MESSAGES)
         for text, words in (("exit 3", "claimrun ended with status 3"), ("kill -9 $$", "claimrun ended with status -9"),
-                            ("cat >/dev/null", "claimrun answered 0 of 3 messages"),
+                            ("cat >/dev/null", "claimrun's output: its end, byte 0: message 1 of 3 has no answer: the output is cut"),
                             ("echo hello", "byte 0: no claim or answer begins here")):
             self.assertIn(words, self.bad("run", source, "--claimrun", self.program(text)))
 
@@ -141,7 +141,8 @@ class Runs(common.Desk):
 
     def test_progress_of_long_work(self):
         self.file("s.toml", BOOK + MESSAGES)
-        slow = self.program('dd bs=4 count=1 of=/dev/null 2>/dev/null; sleep 1.5; exec "%s"' % running.PROGRAM)
+        waits = "import os, time; os.read(0, 4); time.sleep(1.5); os.lseek(0, 0, os.SEEK_SET)"
+        slow = self.program('"%s" -c "%s"; exec "%s"' % (sys.executable, waits, running.PROGRAM))
         status, seen = self.terminal("run", "s.toml", "--claimrun", slow)
         self.assertIn(b"claimrun: 4 of 149 bytes read", seen)
         self.assertTrue(seen.endswith(b"\r"))
