@@ -135,9 +135,9 @@ def csv_rows(path):
             if header is None:
                 header = csv_header(path, reader.line_num, cells)
                 continue
-            if len(cells) > len(header):
+            if len(cells) != len(header):
                 raise Fault("%s: line %d" % (path, reader.line_num), "%d cells" % len(cells),
-                            "%d, as in the header line" % len(header))
+                            "%d, as in the header line; a cell may be empty" % len(header))
             yield CsvRow(path, reader.line_num, csv_values(dict(zip(header, cells))))
     except csv.Error as error:
         raise Fault("%s: line %d" % (path, reader.line_num), "no CSV: %s" % error) from None
