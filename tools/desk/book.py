@@ -2,7 +2,7 @@
 import os
 
 from . import calendars, dates, factors, files, layout, names
-from .errors import Fault
+from .errors import Fault, warn
 from .sources import Source
 
 KEYS = ("opening_day", "calendar", "accounts", "security", "words")
@@ -105,6 +105,15 @@ def place_security(fields, tables, numbers, its_names, last_open):
         place = layout.row_place(number, row_number)
         tables[place:place + layout.ROW_WORDS] = row
         before = row
+    warn_of_rows_behind(payments)
+
+
+def warn_of_rows_behind(payments):
+    """A payment that redeems the security should be its last."""
+    for number, payment in enumerate(payments[:-1], 1):
+        if payment.flag("final", False):
+            warn(payment.fault("final", "redeems the security, and payments stand behind it (%d of %d)" % (number, len(payments)),
+                               "final in the last payment"))
 
 
 def row_of(fields, its_names):
@@ -114,6 +123,8 @@ def row_of(fields, its_names):
     mask = 0
     for value in fields.items("restricted", "accounts, 0 to 15 or names from [accounts]"):
         mask |= 1 << names.find(fields, "restricted", value, its_names.accounts, layout.ACCOUNTS)
+    if not fields.has("interest") and not fields.has("principal"):
+        raise fields.fault("interest", "is missing, and so is principal", "one of them or both; 0 may be written")
     return layout.Row(*days, factors.make(fields, "interest"), factors.make(fields, "principal"),
                       int(fields.flag("final", False)), mask)
 

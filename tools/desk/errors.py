@@ -1,4 +1,5 @@
-"""What ends a command with status 1."""
+"""What ends a command with status 1, and warnings, which do not."""
+import sys
 
 
 class Fault(Exception):
@@ -12,3 +13,8 @@ class Fault(Exception):
         text = "%s: %s" % (self.where, self.what)
         text = text if self.allowed is None else "%s; allowed: %s" % (text, self.allowed)
         return "".join(letter if letter.isprintable() else ascii(letter)[1:-1] for letter in text)
+
+
+def warn(fault):
+    """Tells on standard error what is odd in a source that is taken all the same."""
+    print("claimdesk: warning: %s" % fault, file=sys.stderr)
