@@ -76,6 +76,13 @@ def problem(record):
     return None
 
 
+def judge_row(book, claim, where):
+    """Refuses a claim on a row that the book does not have."""
+    if claim.row not in dict(book.rows(claim.security)):
+        raise Fault(where, "a claim on security %d, row %d, which the book does not have: it is not this book" % (
+            claim.security, claim.row), "the book with which claimrun was run")
+
+
 def money(cents):
     """Cents as dollars and cents."""
     return "%s.%02d" % (format(cents // 100, ","), cents % 100)
