@@ -78,7 +78,7 @@ def problem(record):
 
 def judge_row(book, claim, where):
     """Refuses a claim on a row that the book does not have."""
-    if claim.row not in dict(book.rows(claim.security)):
+    if not any(layout.row_at(book.tables, claim.security, claim.row)):
         raise Fault(where, "a claim on security %d, row %d, which the book does not have: it is not this book" % (
             claim.security, claim.row), "the book with which claimrun was run")
 
