@@ -2,6 +2,7 @@
 import argparse
 import os
 import shutil
+import signal
 import sys
 import tempfile
 
@@ -13,6 +14,15 @@ from .sources import Source
 PIECE = 1 << 16
 BROKEN_PIPE = 141
 INTERRUPTED = 130
+TERMINATED = 143
+
+
+class Terminated(BaseException):
+    """The signal that asks the desk to end; what it has begun is taken away on the way out."""
+
+
+def on_terminate(number, frame):
+    raise Terminated
 
 
 def pieces(file):
@@ -191,6 +201,17 @@ def parser():
 def main(argv=None):
     """Works the command line and gives the exit status."""
     args = parser().parse_args(argv)
+    before = signal.signal(signal.SIGTERM, on_terminate)
+    try:
+        return status_of(args)
+    except Terminated:
+        return TERMINATED
+    finally:
+        signal.signal(signal.SIGTERM, before)
+
+
+def status_of(args):
+    """Works a command and gives the exit status."""
     try:
         args.work(args)
         return 0
