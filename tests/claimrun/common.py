@@ -148,10 +148,9 @@ def wait_until(holds):
 class Run:
     """claimrun at work: its input is a pipe that can hold a MiB, its output a file."""
 
-    def __init__(self, folder, ready=b"", blocks=True):
+    def __init__(self, folder, ready=b""):
         """Starts claimrun; bytes that are ready stand in its input before."""
         theirs, self.input = pipe_of(2 ** 20)
-        os.set_blocking(theirs, blocks)
         if ready:
             os.write(self.input, ready)
         self.output = open(os.path.join(folder, "output"), "w+b")
@@ -191,7 +190,10 @@ class Run:
         self.output.seek(0)
         return self.output.read(), status
 
-    def stop(self):
+    def __enter__(self):
+        return self
+
+    def __exit__(self, *error):
         """Leaves nothing behind."""
         self.process.kill()
         self.process.wait()
@@ -230,26 +232,20 @@ class Claimrun(unittest.TestCase):
             at = next((at for at, (a, b) in enumerate(zip(found, expected)) if a != b), min(len(found), len(expected)))
             self.fail("%d bytes are written, %d are expected; they differ from byte %d on" % (len(found), len(expected), at))
 
-    def start(self, *args, **words):
-        """claimrun at work in the folder; it does not outlive the test."""
-        run = Run(self.folder, *args, **words)
-        self.addCleanup(run.stop)
-        return run
-
     def run_pieces(self, stream, pieces, ready=b""):
         """Hands the pieces over one by one. At each pause all that is due is written, and at the end all of it."""
         self.write_book(stream.book)
-        run = self.start(ready)
-        size = len(ready)
-        for piece in pieces:
-            if size:
-                run.wait()
-                if state(run.process) == "":
-                    break
-                self.assertEqual(run.written(), stream.due(size), "bytes written when %d bytes of input are read" % size)
-            run.send(piece)
-            size += len(piece)
-        found, status = run.end()
+        with Run(self.folder, ready) as run:
+            size = len(ready)
+            for piece in pieces:
+                if size:
+                    run.wait()
+                    if state(run.process) == "":
+                        break
+                    self.assertEqual(run.written(), stream.due(size), "bytes written when %d bytes of input are read" % size)
+                run.send(piece)
+                size += len(piece)
+            found, status = run.end()
         self.same(found, stream.expected)
         self.assertEqual(status, 0)
 

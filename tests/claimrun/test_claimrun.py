@@ -40,13 +40,13 @@ class Example(common.Claimrun):
         self.assertEqual(process.wait(timeout=SECONDS), 0)
 
     def test_goes_on_after_a_stop_and_a_continue(self):
-        run = self.start()
-        run.send(TRANSFER[:50])
-        for sent, seen in ((signal.SIGSTOP, "T"), (signal.SIGCONT, "S")):
-            run.process.send_signal(sent)
-            wait_until(lambda: state(run.process) in (seen, ""))
-        run.send(TRANSFER[50:])
-        self.assertEqual(run.end(), (EXPECTED, 0))
+        with common.Run(self.folder) as run:
+            run.send(TRANSFER[:50])
+            for sent, seen in ((signal.SIGSTOP, "T"), (signal.SIGCONT, "S")):
+                run.process.send_signal(sent)
+                wait_until(lambda: state(run.process) in (seen, ""))
+            run.send(TRANSFER[50:])
+            self.assertEqual(run.end(), (EXPECTED, 0))
 
     # ---- refusals
 

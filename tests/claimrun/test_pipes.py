@@ -55,7 +55,10 @@ class Between:
         os.close(self.output)
         return self.process.wait(timeout=SECONDS)
 
-    def stop(self):
+    def __enter__(self):
+        return self
+
+    def __exit__(self, *error):
         """Leaves nothing behind."""
         self.process.kill()
         self.process.wait()
@@ -73,10 +76,9 @@ class Waiting(common.Claimrun):
 
     def try_stream(self, stream, pieces, reads_block=True, writes_block=True, stops=False):
         self.write_book(stream.book)
-        between = Between(self.folder, reads_block, writes_block)
-        self.addCleanup(between.stop)
-        between.work(pieces, between.stop_and_continue if stops else lambda: None)
-        status = between.end()
+        with Between(self.folder, reads_block, writes_block) as between:
+            between.work(pieces, between.stop_and_continue if stops else lambda: None)
+            status = between.end()
         self.same(between.found, stream.expected)
         self.assertEqual(status, 0)
 

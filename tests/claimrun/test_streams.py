@@ -7,36 +7,34 @@ STREAMS = common.vectors()
 
 
 class Streams(common.Claimrun):
-    def each(self):
-        """Each stream with its number."""
+    def each(self, try_one):
+        """Tries each stream."""
         for number, stream in enumerate(STREAMS):
             with self.subTest(stream=number):
-                yield stream
+                try_one(stream)
+
+    def middle(self, stream):
+        """Where the record in the middle begins."""
+        return stream.starts[len(stream.starts) // 2]
 
     def test_sixty(self):
         self.assertEqual(len(STREAMS), 60)
 
     def test_whole_from_a_file(self):
-        for stream in self.each():
-            self.run_file(stream)
+        self.each(self.run_file)
 
     def test_whole_from_a_pipe(self):
-        for stream in self.each():
-            self.run_pieces(stream, [], ready=stream.data)
+        self.each(lambda stream: self.run_pieces(stream, [], ready=stream.data))
 
     def test_cut_in_the_middle(self):
-        for stream in self.each():
-            self.run_pieces(stream, stream.pieces([len(stream.data) // 2]))
-
-    def test_cut_behind_the_first_bytes_of_a_record(self):
-        for stream in self.each():
-            start = stream.starts[len(stream.starts) // 2]
-            for size in (1, 2, 3):
-                self.run_pieces(stream, stream.pieces([start + size]))
+        self.each(lambda stream: self.run_pieces(stream, stream.pieces([len(stream.data) // 2])))
 
     def test_cut_where_a_record_begins(self):
-        for stream in self.each():
-            self.run_pieces(stream, stream.pieces([stream.starts[len(stream.starts) // 2]]))
+        self.each(lambda stream: self.run_pieces(stream, stream.pieces([self.middle(stream)])))
+
+    def test_cut_behind_the_first_bytes_of_a_record(self):
+        for size in (1, 2, 3):
+            self.each(lambda stream: self.run_pieces(stream, stream.pieces([self.middle(stream) + size])))
 
 
 if __name__ == "__main__":
