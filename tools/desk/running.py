@@ -1,5 +1,7 @@
 """Running claimrun: in a folder of its own, with book.dat there and the messages on standard input."""
+import functools
 import os
+import signal
 import subprocess
 import sys
 import time
@@ -11,6 +13,7 @@ ROOT = os.path.dirname(os.path.dirname(os.path.dirname(os.path.realpath(__file__
 PROGRAM = os.path.join(ROOT, "target", "bin", "claimrun")
 QUIET_SECONDS = 1.0
 STEP_SECONDS = 0.2
+STOPPING = (signal.SIGINT, signal.SIGTERM)
 
 
 class Progress:
@@ -56,19 +59,24 @@ def run(path, folder, progress):
     """Runs claimrun in a folder that holds book.dat and messages.dat; what it writes is output.dat there."""
     with open(os.path.join(folder, "messages.dat"), "rb", buffering=0) as messages, \
             open(os.path.join(folder, "output.dat"), "wb") as output:
+        mask = signal.pthread_sigmask(signal.SIG_BLOCK, STOPPING)
+        heed = functools.partial(signal.pthread_sigmask, signal.SIG_SETMASK, mask)
         try:
-            process = subprocess.Popen([path], cwd=folder, stdin=messages, stdout=output)
+            process = subprocess.Popen([path], cwd=folder, stdin=messages, stdout=output, preexec_fn=heed)
         except OSError as error:
+            heed()
             raise Fault(path, "cannot be run: %s" % error.strerror) from None
-        wait(process, messages, progress)
+        wait(process, messages, progress, heed)
     if process.returncode != 0:
         raise Fault(path, "claimrun ended with status %d" % process.returncode)
 
 
-def wait(process, messages, progress):
-    """Waits for claimrun; how far it has read shows in the place of the file that it shares with this process."""
+def wait(process, messages, progress, heed):
+    """Waits for claimrun; how far it has read shows in the place of the file that it shares with this process. Signals are heeded
+    from here on, where claimrun ends with the desk."""
     size = os.fstat(messages.fileno()).st_size
     try:
+        heed()
         while True:
             try:
                 process.wait(timeout=STEP_SECONDS)
