@@ -169,7 +169,7 @@ def page(source, book, path):
     top = source.top
     transfers = top.tables("transfer")
     if len(transfers) != 2:
-        raise Fault(source.path, "has %d [[transfer]] tables" % len(transfers), "two")
+        raise Fault(source.path, "has %d [[transfer]] tables" % len(transfers), "two", 1)
     path = running.program(path)
     sides = [Side(fields, book, path, number) for number, fields in enumerate(transfers, 1)]
     scale = timeline.Scale([side.events() for side in sides], book.calendar)

@@ -216,13 +216,13 @@ def status_of(args):
         args.work(args)
         return 0
     except Fault as fault:
-        print("claimdesk: %s" % fault, file=sys.stderr)
+        print(fault, file=sys.stderr)
         return 1
     except BrokenPipeError:
         os.dup2(os.open(os.devnull, os.O_WRONLY), sys.stdout.fileno())
         return BROKEN_PIPE
     except OSError as error:
-        print("claimdesk: %s" % files.trouble(error.filename or "standard output", error), file=sys.stderr)
+        print(files.trouble(error.filename or "standard output", error), file=sys.stderr)
         os.dup2(os.open(os.devnull, os.O_WRONLY), sys.stdout.fileno())
         return 1
     except KeyboardInterrupt:

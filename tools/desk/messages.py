@@ -6,7 +6,7 @@ import re
 
 from . import book, dates, files, layout, names
 from .errors import Fault
-from .sources import Fields, Source, listing, sample
+from .sources import Fields, Source, listing, meant, sample
 
 TRANSFER_KEYS = ("sender", "receiver", "security", "market", "code", "par", "contract_date", "text1", "text2",
                  "line1_hex", "line2_hex")
@@ -26,8 +26,7 @@ class CsvRow(Fields):
         self.path, self.line = path, line
 
     def fault(self, key, what, allowed=None):
-        where = "%s: line %d" % (self.path, self.line)
-        return Fault("%s: %s" % (where, key) if key else where, what, allowed)
+        return Fault(self.path, what, allowed, self.line, key)
 
 
 def tag(day):
@@ -90,7 +89,7 @@ def make_line(fields, number, text):
     allowed = "at most 64 printable ASCII characters, the tag of contract_date (19) included"
     if not PRINTABLE.fullmatch(text):
         wrong = next(letter for letter in text if not PRINTABLE.fullmatch(letter))
-        raise fields.fault(key, "has the character %s" % ascii(wrong), allowed)
+        raise fields.fault(key, "has the character %s" % wrong, allowed)
     if len(text) > layout.LINE:
         raise fields.fault(key, "the line has %d characters" % len(text), allowed)
     return text.ljust(layout.LINE).encode("ascii")
@@ -136,13 +135,13 @@ def csv_rows(path):
                 header = csv_header(path, reader.line_num, cells)
                 continue
             if len(cells) != len(header):
-                raise Fault("%s: line %d" % (path, reader.line_num), "%d cells" % len(cells),
-                            "%d, as in the header line; a cell may be empty" % len(header))
+                raise Fault(path, "%d cells" % len(cells), "%d, as in the header line; a cell may be empty, and a number has "
+                            "no comma" % len(header), reader.line_num)
             yield CsvRow(path, reader.line_num, csv_values(dict(zip(header, cells))))
     except csv.Error as error:
-        raise Fault("%s: line %d" % (path, reader.line_num), "no CSV: %s" % error) from None
+        raise Fault(path, "no CSV: %s" % error, None, reader.line_num) from None
     if header is None:
-        raise Fault(path, "has no header line", listing(COLUMNS))
+        raise Fault(path, "has no header line", listing(COLUMNS), 1)
 
 
 def csv_header(path, line, cells):
@@ -150,9 +149,9 @@ def csv_header(path, line, cells):
     header = [cell.strip() for cell in cells]
     for place, column in enumerate(header):
         if column not in COLUMNS:
-            raise Fault("%s: line %d" % (path, line), "unknown column %s" % sample(column), listing(COLUMNS))
+            raise Fault(path, "unknown column %s%s" % (sample(column), meant(column, COLUMNS)), listing(COLUMNS), line)
         if column in header[:place]:
-            raise Fault("%s: line %d" % (path, line), "column %s stands there twice" % column, "each column once")
+            raise Fault(path, "column %s stands there twice" % column, "each column once", line)
     return header
 
 
@@ -176,7 +175,7 @@ def sequence(path, source=None):
             raise inner.top.fault("messages", "a file of messages that names another", "[[message]] tables")
         return sequence(named, inner)[0], [path, named]
     if not top.has("message"):
-        raise Fault(path, "has no messages", "[[message]] tables, or messages = \"FILE\"")
+        raise Fault(path, "has no messages", "[[message]] tables, or messages = \"FILE\"", 1)
     return top.tables("message"), [path]
 
 

@@ -82,8 +82,7 @@ restricted = [0, "Last Bank"]
         status, _, errors = self.call("book", "make", self.file("book.toml", both), "-o", self.path("book.dat"))
         self.assertEqual(status, 0)
         self.assertEqual(errors.count("\n"), 1)
-        self.assertTrue(errors.startswith("claimdesk: warning: "))
-        self.assertIn("book.toml: line 18: [[security]] 1, payment 1, final: redeems the security, and payments stand behind it", errors)
+        self.assertIn("book.toml:18: warning: [[security]] 1, payment 1, final: redeems the security, and payments stand behind it", errors)
         data = words(content(self.path("book.dat")))
         self.assertEqual((data[480 + 7], data[480 + 14]), (1, 1))
 
