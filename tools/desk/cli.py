@@ -7,7 +7,7 @@ import sys
 import tempfile
 
 from . import board, book, book_text, checking, claims_text, files, layout, message_text, messages, running
-from .errors import Fault
+from .errors import Fault, Mistakes
 from .names import Names
 from .sources import Source
 
@@ -32,8 +32,9 @@ def pieces(file):
 
 
 def book_make(args):
-    source = Source(args.source)
-    made = book.make(source)
+    found = Mistakes()
+    made = book.make(Source(args.source), found)
+    found.end()
     files.write(args.output or "book.dat", [made.bytes()], made.paths)
 
 
@@ -45,18 +46,20 @@ def book_show(args):
 def messages_make(args):
     if args.output is None and sys.stdout.isatty():
         raise Fault("standard output", "is a terminal, and the records are bytes", "-o FILE, or a pipe to claimrun")
+    found = Mistakes()
     source = None if messages.is_csv(args.source) else Source(args.source)
-    names, paths = names_for(args, source)
-    sequence, read_paths = messages.sequence(args.source, source)
+    names, paths = names_for(args, source, found)
+    sequence, read_paths = messages.sequence(args.source, found, source)
     progress = running.Progress()
     with tempfile.TemporaryFile() as file:
-        messages.make_into(file, sequence, names, lambda count: progress.show("%d messages made", count))
+        messages.make_into(file, sequence, names, found, lambda count: progress.show("%d messages made", count))
         progress.end()
+        found.end()
         file.seek(0)
         files.write(args.output, pieces(file), paths + read_paths)
 
 
-def names_for(args, source):
+def names_for(args, source, found):
     """The names that messages may use: those of --book, else those of the book in the same source."""
     if args.book is not None:
         given = book.read(args.book)
@@ -64,7 +67,7 @@ def names_for(args, source):
     if source is None:
         return Names(), []
     if any(source.top.has(key) for key in ("accounts", "security", "book")):
-        given = book.make(source, needs_day=False)
+        given = book.make(source, found, needs_day=False)
         return given.names, given.paths
     return Names(), []
 
@@ -126,14 +129,16 @@ def claims_check(args):
 
 
 def run(args):
+    found = Mistakes()
     source = Source(args.source)
-    made = book.make(source)
-    sequence, paths = messages.sequence(args.source, source)
+    made = book.make(source, found)
+    sequence, paths = messages.sequence(args.source, found, source)
     progress = running.Progress()
     with tempfile.TemporaryDirectory(prefix="claimdesk-") as folder:
         work = running.Run(args.claimrun, folder, made, progress)
         try:
-            work.messages(sequence)
+            work.messages(sequence, found)
+            found.end()
             work.work()
             if args.output is None and sys.stdout.isatty():
                 progress.end()
@@ -146,9 +151,10 @@ def run(args):
 
 
 def board_make(args):
+    found = Mistakes()
     source = Source(args.source)
-    made = book.make(source, needs_day=False)
-    page = board.page(source, made, args.claimrun)
+    made = book.make(source, found, needs_day=False)
+    page = board.page(source, made, args.claimrun, found)
     files.write(args.output, [page.encode("utf-8")], made.paths)
 
 

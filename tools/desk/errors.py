@@ -1,6 +1,8 @@
 """What ends a command with status 1, and warnings, which do not."""
 import sys
 
+MOST = 20
+
 
 def shown(text):
     """Text for one line: characters that cannot be printed go by their number."""
@@ -22,6 +24,55 @@ class Fault(Exception):
 
     def __str__(self):
         return self.text()
+
+
+class Faults(Fault):
+    """All mistakes of a source, in the order of their lines."""
+
+    def __init__(self, faults):
+        files = list(dict.fromkeys(fault.where for fault in faults))
+        self.faults = sorted(faults, key=lambda fault: (files.index(fault.where), fault.line or 0))
+        super().__init__(None, None)
+
+    def text(self, kind=None):
+        lines = [fault.text(kind) for fault in self.faults]
+        return "\n".join(lines + ["claimdesk: there may be more; %d mistakes are told at most" % MOST] * (len(lines) == MOST))
+
+
+class Mistakes:
+    """Collects the mistakes of a source, so that all of them are told at once, or the first of very many."""
+
+    def __init__(self):
+        self.faults, self.texts, self.count = [], set(), 0
+
+    def add(self, fault):
+        """One more mistake; the same one is told once."""
+        self.count += 1
+        if fault.text() not in self.texts:
+            self.texts.add(fault.text())
+            self.faults.append(fault)
+        if len(self.faults) == MOST:
+            self.end()
+
+    def take(self, make, *args):
+        """What make gives, or None where it finds a mistake."""
+        try:
+            return make(*args)
+        except Untold:
+            self.count += 1
+            return None
+        except Fault as fault:
+            self.add(fault)
+            return None
+
+    def end(self):
+        """Ends the command if there is a mistake."""
+        if self.faults:
+            raise Faults(self.faults)
+
+
+class Untold(Fault):
+    """What follows from a mistake that is told already."""
 
 
 def warn(fault):

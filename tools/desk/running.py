@@ -95,17 +95,17 @@ class Run:
 
     def __init__(self, path, folder, book, progress):
         self.path, self.folder, self.book, self.progress = program(path), folder, book, progress
-        with open(os.path.join(folder, "book.dat"), "wb") as file:
-            file.write(book.bytes())
 
-    def messages(self, fields_in_order):
+    def messages(self, fields_in_order, found):
         """Writes the messages of a source."""
         with open(os.path.join(self.folder, "messages.dat"), "wb") as file:
-            messages.make_into(file, fields_in_order, self.book.names,
+            messages.make_into(file, fields_in_order, self.book.names, found,
                                lambda count: self.progress.show("%d messages made", count))
 
     def work(self):
         """Runs claimrun and sees that each message got its answer."""
+        with open(os.path.join(self.folder, "book.dat"), "wb") as file:
+            file.write(self.book.bytes())
         run(self.path, self.folder, self.progress)
         with self.output() as output:
             checking.check(self.calls(), output, "claimrun's output")

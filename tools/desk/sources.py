@@ -6,7 +6,7 @@ import re
 import tomllib
 
 from . import dates, files
-from .errors import Fault, shown
+from .errors import Fault, Untold, shown
 
 REQUIRED = object()
 ARRAY_HEADER = re.compile(r"\s*\[\[\s*([A-Za-z0-9_.-]+)\s*\]\]")
@@ -111,15 +111,17 @@ class Fields:
 
     def __init__(self, values):
         self.values = values
+        self.misspelt = set()
 
     def fault(self, key, what, allowed=None):
         raise NotImplementedError
 
-    def known(self, *allowed):
-        """Refuses keys other than these."""
+    def known(self, found, *allowed):
+        """Finds keys other than these."""
         for key in self.values:
             if key not in allowed:
-                raise self.fault(key, "unknown key%s" % meant(key, allowed), listing(allowed))
+                self.misspelt.update(difflib.get_close_matches(key, allowed, 1))
+                found.add(self.fault(key, "unknown key%s" % meant(key, allowed), listing(allowed)))
 
     def has(self, key):
         return key in self.values
@@ -128,8 +130,12 @@ class Fields:
         if key in self.values:
             return self.values[key]
         if default is REQUIRED:
-            raise self.fault(key, "is missing", allowed)
+            raise self.missing(key, allowed)
         return default
+
+    def missing(self, key, allowed):
+        """A Fault for a key that is not there; untold where it is there, misspelt."""
+        return (Untold if key in self.misspelt else self.fault)(key, "is missing", allowed)
 
     def integer(self, key, low, high, default=REQUIRED):
         """A whole number from low to high."""
@@ -161,8 +167,10 @@ class Fields:
             raise self.fault(key, "%s is no list" % sample(value), "a list in [ ] of: " + allowed)
         return value
 
-    def date_list(self, key):
-        return [self.date_of(key, value) for value in self.items(key, dates.ALLOWED)]
+    def date_set(self, key, found):
+        """The dates of a list that are dates."""
+        days = (found.take(self.date_of, key, value) for value in found.take(self.items, key, dates.ALLOWED) or ())
+        return {day for day in days if day is not None}
 
     def choice(self, key, names, default=REQUIRED):
         """The number of a name."""

@@ -1,4 +1,4 @@
-"""Every error: one line with file, line or key, what is wrong and what is allowed; status 1, and no output changed."""
+"""Every error: a line with file, line and key, what is wrong and what is allowed; status 1, and no output changed."""
 import os
 import pty
 import subprocess
@@ -82,7 +82,7 @@ BOOK_ERRORS = (
     ('interest = "0.005"', "interest = 1e400000000", ("out of range",)),
     ('interest = "0.005"', "interest = nan", ("is no decimal number",)),
     ('interest = "0.005"', "interest = []", ("a list is no decimal number",)),
-    ('interest = "0.005"\n', "", (":13: [[security]] 1, payment 1, interest: is missing, and so is principal", "0 may be written")),
+    ('interest = "0.005"\n', "", (":13: [[security]] 1, payment 1, interest: is missing", "interest, principal or both; 0 may be written")),
     ('interest = "0.005"', "interest = 0\nfinal = 1", ("1 is neither true nor false", "true, false")),
     ('interest = "0.005"', "restricted = [16]", ("restricted: 16 is out of range", "First Bank, Second Bank")),
     ('interest = "0.005"', 'restricted = ["No Bank"]', ('restricted: "No Bank" is not known', "0 to 15 or a name")),
@@ -330,8 +330,8 @@ class Errors(common.Desk):
             self.assertEqual((status, errors), (0, ""))
             self.assertIn(b"usage: claimdesk", output)
 
-    def test_odd_values_are_refused_in_one_line(self):
-        """Any value in the place of any other is taken or refused, and nothing else happens."""
+    def test_odd_values_are_taken_or_refused(self):
+        """Whatever value stands in the place of another, nothing else happens."""
         values = ("0", "-1", "true", "[]", "{}", '"x"', "2023-04-01", "10:00:00", "1.5", "nan", '""', '"\\u0000\\n"',
                   "99999999999999999999999", "[[1]]", '"Second Bank"', '"00"')
         lines = (WHOLE + PAIR).split("\n")
@@ -343,7 +343,9 @@ class Errors(common.Desk):
                 source = self.file("source.toml", "\n".join(changed))
                 for command in (("book", "make"), ("messages", "make"), ("board",)):
                     status, _, errors = self.call(*command, source, "-o", self.path("out"))
-                    self.assertEqual((status, errors.count("\n")), (1, 1) if errors else (0, 0), changed[place])
+                    self.assertEqual(status, 1 if errors else 0, changed[place])
+                    if errors:
+                        self.plain(errors)
 
 
 if __name__ == "__main__":
