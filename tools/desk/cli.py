@@ -128,6 +128,38 @@ def claims_check(args):
     files.write(args.output, [(found.words() + "\n").encode("utf-8")], [args.messages, args.claims])
 
 
+def check(args):
+    """Judges what a source holds, and runs nothing."""
+    found = Mistakes()
+    source = None if messages.is_csv(args.source) else Source(args.source)
+    held, names = judge_book(args, source, found)
+    if source is None or source.top.has("message") or source.top.has("messages"):
+        count = count_messages(args.source, source, names, found)
+        held.append("%s message%s" % (format(count, ","), "" if count == 1 else "s"))
+    found.end()
+    files.write(args.output, [("%s: no mistakes in %s\n" % (args.source, " and ".join(held))).encode("utf-8")], [args.source])
+
+
+def judge_book(args, source, found):
+    """Judges the book and the pair of a source; what it holds of them in words, and the names that its messages may use. A source of
+    messages alone holds neither, and has the names of --book."""
+    has = source.top.has if source is not None else lambda key: key == "message"
+    if not any(map(has, book.KEYS + ("book", "transfer"))) and (has("message") or has("messages")):
+        return [], book.read(args.book).names if args.book is not None else Names()
+    made = book.make(source, found, needs_day=not has("transfer"))
+    if has("transfer"):
+        board.sides_of(source, made, found)
+    return ["the book"] + ["two transfers"] * has("transfer"), made.names
+
+
+def count_messages(path, source, names, found):
+    """How many messages a source makes."""
+    with tempfile.TemporaryFile() as file:
+        messages.make_into(file, messages.sequence(path, found, source)[0], names, found)
+        file.seek(0)
+        return sum(1 for _ in layout.messages(file))
+
+
 def run(args):
     found = Mistakes()
     source = Source(args.source)
@@ -194,6 +226,9 @@ def parser():
     made = command(group, "check", claims_check, "see that claimrun's output answers each message, and is not cut")
     made.add_argument("messages", metavar="MESSAGES", help="the message records that were sent")
     made.add_argument("claims", metavar="CLAIMS", help="claimrun's output")
+    made = command(groups, "check", check, "judge a source, and run nothing")
+    made.add_argument("source", metavar="SOURCE.toml|SOURCE.csv")
+    made.add_argument("--book", metavar="SOURCE.toml", help="for messages alone: take the names of accounts and securities from this source")
     made = command(groups, "run", run, "make book and messages, run claimrun and show its claims")
     made.add_argument("source", metavar="SOURCE.toml")
     made.add_argument("--format", choices=claims_text.FORMATS, default="text")

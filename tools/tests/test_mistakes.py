@@ -1,5 +1,7 @@
 """All mistakes of a source in one run, in the order of their lines."""
+import os
 import unittest
+from unittest import mock
 
 import common
 from common import BOOK, MESSAGES, PAIR
@@ -7,7 +9,7 @@ from common import BOOK, MESSAGES, PAIR
 WHOLE = BOOK + MESSAGES
 
 
-class AllMistakes(common.Desk):
+class Sources(common.Desk):
     def found(self, *args):
         """The lines of a call's errors without file and what is allowed: line number and what is wrong."""
         lines = self.bad(*args, "-o", self.path("out")).split("\n")[:-1]
@@ -20,6 +22,8 @@ class AllMistakes(common.Desk):
             text = text.replace(old, new, 1)
         return self.file("s.toml", text)
 
+
+class AllMistakes(Sources):
     def test_in_every_part(self):
         source = self.changed(
             WHOLE, ("2023-04-04", "2023-04-01"), ("1 = ", "16 = "), ("[[security]]", '[calendar]\nclosed = [1, 2023-05-01, "x"]\n[[security]]'),
@@ -92,6 +96,46 @@ class AllMistakes(common.Desk):
             lines = self.found("messages", "make", source)
             self.assertEqual(lines[:told], ["m.csv:%d: close: 0 is out of range" % line for line in range(2, told + 2)])
             self.assertEqual(lines[told:], ["claimdesk: there may be more; 20 mistakes are told at most"] if told == 20 else [])
+
+
+class Checks(Sources):
+    """claimdesk check, which runs nothing."""
+
+    def judged(self, path, *args):
+        return self.good("check", path, *args).decode().split("/")[-1]
+
+    def test_sources_without_mistakes(self):
+        book, pool = self.file("b.toml", BOOK), self.file("m.csv", "sender,receiver,security,par\nFirst Bank,2,Pool,5\n")
+        for path, args, words in (
+                (self.file("s.toml", WHOLE), (), "s.toml: no mistakes in the book and 3 messages\n"),
+                (book, (), "b.toml: no mistakes in the book\n"),
+                (pool, ("--book", book), "m.csv: no mistakes in 1 message\n"),
+                (self.file("m.toml", "[[message]]\nclose = 1200\n"), (), "m.toml: no mistakes in 1,200 messages\n"),
+                (self.file("two.toml", 'book = "b.toml"\nmessages = "m.csv"\n'), (), "two.toml: no mistakes in the book and 1 message\n"),
+                (self.file("pair.toml", BOOK + PAIR), (), "pair.toml: no mistakes in the book and two transfers\n")):
+            self.assertEqual(self.judged(path, *args), words)
+
+    def test_examples(self):
+        for name in os.listdir(common.EXAMPLES):
+            if name.endswith((".toml", ".csv")):
+                args = ("--book", os.path.join(common.EXAMPLES, "busy-day.toml")) if name.endswith(".csv") else ()
+                self.assertIn(name + ": no mistakes in ", self.judged(os.path.join(common.EXAMPLES, name), *args))
+
+    def test_the_same_mistakes_as_run_and_board_tell(self):
+        for text, command in ((WHOLE.replace("200_000", "0").replace("agency MBS", "MBS").replace("opening_day", "day"), "run"),
+                              ((BOOK + PAIR).replace("200_000", "0").replace("monthly", "weekly"), "board")):
+            source = self.file("s.toml", text)
+            self.assertGreater(len(self.found("check", source)), 2)
+            self.assertEqual(self.found("check", source), self.found(command, source))
+
+    def test_a_source_with_nothing(self):
+        self.assertEqual(self.found("check", self.file("s.toml", "")), ["s.toml:1: opening_day: is missing"])
+
+    def test_runs_nothing(self):
+        """It works where claimrun is not built."""
+        with mock.patch.object(common.running, "PROGRAM", self.path("none")):
+            for text in (WHOLE, BOOK + PAIR):
+                self.judged(self.file("s.toml", text))
 
 
 if __name__ == "__main__":
