@@ -69,9 +69,9 @@ class Stream:
         self.ends = answer_ends(expected)
 
     def pieces(self, cuts=None):
-        """The input in pieces, cut at these places or at its own."""
+        """The input in pieces, cut at these places or at its own; none of them is empty."""
         ends = (self.cuts if cuts is None else list(cuts)) + [len(self.data)]
-        return [self.data[start:end] for start, end in zip([0] + ends, ends)]
+        return [self.data[start:end] for start, end in zip([0] + ends, ends) if start < end]
 
     def due(self, size):
         """How many bytes are to be written once this much of the input is read: the answers of its whole records."""

@@ -32,16 +32,24 @@ class Arguments(common.Claimrun):
         output, errors = self.said("--help")
         self.assertEqual(errors, b"")
         self.assertTrue(output.endswith(b"\n"))
-        for words in (b"claimrun", b"book.dat", b"standard input", b"--help", b"--version"):
+        for words in (b"claimrun", b"book.dat", b"standard input", b"--version"):
             self.assertIn(words, output)
+
+    def refused(self, *arguments):
+        output, errors = self.said(*arguments)
+        self.assertEqual(output, b"")
+        self.assertRegex(errors, rb"\Aclaimrun: [^\n]+\n\Z")
 
     def test_other_arguments(self):
         for argument in ("x", "", "-", "--", "-h", "--hel", "--help ", "--helpx", "--versio", "--Version", "version", "--cards",
-                         "book.dat", b"\xff\xfe", "x" * 100_000):
+                         "book.dat", b"\xff\xfe", "--help" + "x" * 100_000):
             with self.subTest(argument=argument[:20]):
-                output, errors = self.said(argument)
-                self.assertEqual(output, b"")
-                self.assertRegex(errors, rb"\Aclaimrun: [^\n]+\n\Z")
+                self.refused(argument)
+
+    def test_more_than_one_argument(self):
+        for arguments in (("--help", "--version"), ("--version", "x"), ("x", "--help"), ("", "")):
+            with self.subTest(arguments=arguments):
+                self.refused(*arguments)
 
 
 if __name__ == "__main__":

@@ -148,6 +148,11 @@ class Failing(common.Claimrun):
         with open("/dev/full", "wb") as full:
             self.one_line(self.ended(stdout=full), b"standard output")
 
+    def test_help(self):
+        for argument in ("--help", "--version"):
+            with open("/dev/full", "wb") as full:
+                self.one_line(self.ended([PROGRAM, argument], stdout=full), b"standard output")
+
     def test_input_that_cannot_be_read(self):
         for name, flags in (("/", os.O_RDONLY), (os.devnull, os.O_WRONLY)):
             given = os.open(name, flags)

@@ -1,4 +1,4 @@
-"""The streams of crates/vectors through the process: whole, and in two pieces that arrive apart."""
+"""The streams of crates/vectors through the process: whole, and in pieces that arrive apart."""
 import unittest
 
 import common
@@ -32,9 +32,10 @@ class Streams(common.Claimrun):
     def test_cut_where_a_record_begins(self):
         self.each(lambda stream: self.run_pieces(stream, stream.pieces([self.middle(stream)])))
 
-    def test_cut_behind_the_first_bytes_of_a_record(self):
+    def test_first_bytes_of_a_record_alone(self):
+        """One to three bytes of a record arrive in a read of their own."""
         for size in (1, 2, 3):
-            self.each(lambda stream: self.run_pieces(stream, stream.pieces([self.middle(stream) + size])))
+            self.each(lambda stream: self.run_pieces(stream, stream.pieces([self.middle(stream), self.middle(stream) + size])))
 
 
 if __name__ == "__main__":
