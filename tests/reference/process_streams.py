@@ -3,7 +3,8 @@
     python3 process_streams.py REFERENCE_FOLDER FOLDER
 
 writes FOLDER/NAME.stream for each stream: the bytes of book.dat, the input, all that claimrun writes, and the places where the input is
-cut into pieces (four bytes each), each of the four parts behind its length of four bytes. tests/claimrun/data holds the files packed by gzip -9n.
+cut into pieces (four bytes each), each of the four parts behind its length of four bytes. tests/claimrun/data holds the files, packed by
+gzip -9n.
 """
 import os
 import random
@@ -15,7 +16,7 @@ import step_files
 ref, mk = step_files.reference_modules(sys.argv[1])
 import claimrun  # noqa: E402
 
-ACCOUNTS, SECURITIES, ROWS = 16, 16, 16
+ACCOUNTS, ROWS = 16, 16
 PAIRS = [(lender, borrower) for lender in range(ACCOUNTS) for borrower in range(ACCOUNTS) if lender != borrower]
 START = 1                       # the tracking code that starts a loan
 TRANSFER_SIZE, CLOSE_SIZE = 141, 4
@@ -54,14 +55,13 @@ def places(pieces) -> list:
     return ends[1:-1]
 
 
-def store(name, book, data, cuts, machine) -> bytes:
-    """Writes a stream, with what the reference answers to it, and gives the answers."""
+def store(name, book, data, cuts, machine):
+    """Writes a stream, with what the reference answers to it."""
     expected = claimrun.run_bytes(book, data, machine)
     parts = (book, data, expected, struct.pack("<%dI" % len(cuts), *cuts))
     with open(os.path.join(sys.argv[2], name + ".stream"), "wb") as file:
         file.write(b"".join(struct.pack("<I", len(part)) + part for part in parts))
     print("%s: %d bytes in, %d pieces, %d bytes out" % (name, len(data), len(cuts) + 1, len(expected)))
-    return expected
 
 
 def days_from(first: int) -> list:

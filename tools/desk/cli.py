@@ -228,7 +228,7 @@ def parser():
     made.add_argument("claims", metavar="CLAIMS", help="claimrun's output")
     made = command(groups, "check", check, "judge a source, and run nothing")
     made.add_argument("source", metavar="SOURCE.toml|SOURCE.csv")
-    made.add_argument("--book", metavar="SOURCE.toml", help="for messages alone: take the names of accounts and securities from this source")
+    made.add_argument("--book", metavar="SOURCE.toml", help="for messages alone: take the names from this source")
     made = command(groups, "run", run, "make book and messages, run claimrun and show its claims")
     made.add_argument("source", metavar="SOURCE.toml")
     made.add_argument("--format", choices=claims_text.FORMATS, default="text")

@@ -72,7 +72,8 @@ restricted = [0, "Last Bank"]
             self.assertEqual(data[480 + 5], billionths, text)
 
     def test_one_of_both_factors_is_enough(self):
-        for text, words_of_row in (('interest = "0.1"', (100_000_000, 0)), ('principal = "0.1"', (0, 100_000_000)), ("interest = 0", (0, 0))):
+        for text, words_of_row in (('interest = "0.1"', (100_000_000, 0)), ('principal = "0.1"', (0, 100_000_000)),
+                                   ("interest = 0", (0, 0))):
             data = words(self.made(BOOK.replace('interest = "0.005"', text, 1)))
             self.assertEqual(tuple(data[480 + 5:480 + 7]), words_of_row)
 

@@ -26,7 +26,8 @@ class Sources(common.Desk):
 class AllMistakes(Sources):
     def test_in_every_part(self):
         source = self.changed(
-            WHOLE, ("2023-04-04", "2023-04-01"), ("1 = ", "16 = "), ("[[security]]", '[calendar]\nclosed = [1, 2023-05-01, "x"]\n[[security]]'),
+            WHOLE, ("2023-04-04", "2023-04-01"), ("1 = ", "16 = "),
+            ("[[security]]", '[calendar]\nclosed = [1, 2023-05-01, "x"]\n[[security]]'),
             ("agency MBS", "MBS"), ("payment = 2023-04-15", "payment = 2040-01-01"), ('interest = "0.005"', 'interest = "half"\nfinal = 3'),
             ("par = 200_000", 'par = 0\ncode = "SLTS"'), ("close = 2", "close = -1"))
         wrong = ["s.toml:4: accounts, 16: is no account",
@@ -45,14 +46,16 @@ class AllMistakes(Sources):
         self.assertEqual(self.found("book", "make", source), wrong[:7])
 
     def test_of_one_message(self):
-        source = self.changed(WHOLE, ('"First Bank"\nreceiver', '"No Bank"\nreceiver'), ("receiver = 2", "receiver = 99"), ('"Pool"\npar', "5.5\npar"),
+        source = self.changed(WHOLE, ('"First Bank"\nreceiver', '"No Bank"\nreceiver'), ("receiver = 2", "receiver = 99"),
+                              ('"Pool"\npar', "5.5\npar"),
                               ("par = 200_000", 'par = "1"\nmarket = 1\ncode = 2\ntext1 = 3\ntext2 = "é"'), ("2023-03-15", '"soon"'))
         self.assertEqual([line.split(", ")[-1].split(":")[0] for line in self.found("run", source)],
                          ["sender", "receiver", "security", "par", "market", "code", "text1", "text2", "contract_date"])
 
     def test_of_one_payment(self):
         """All date rules are told, and none on dates that are wrong themselves."""
-        source = self.changed(WHOLE, ("record = 2023-05-01", "record = 2023-04-01"), ("beneficiary = 2023-05-01", "beneficiary = 2023-05-16"))
+        source = self.changed(WHOLE, ("record = 2023-05-01", "record = 2023-04-01"),
+                              ("beneficiary = 2023-05-01", "beneficiary = 2023-05-16"))
         self.assertEqual(self.found("run", source), [
             "s.toml:20: [[security]] 1, payment 2, record: 2023-04-01 is not after the Record Date before it, 2023-04-01",
             "s.toml:21: [[security]] 1, payment 2, beneficiary: 2023-05-16 is after its Payment Date, 2023-05-15"])
