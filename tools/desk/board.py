@@ -5,7 +5,8 @@ from html import escape
 
 from . import book as books
 from . import claims, dates, layout, messages, running, timeline
-from .errors import Fault
+from .errors import Fault, Mistakes
+from .sources import sample
 
 TITLE = "Which of these two transfers owes money?"
 DAYS_BEFORE = datetime.timedelta(days=40)
@@ -60,40 +61,46 @@ STYLE = """
 class Side:
     """One of the two transfers: what the source says of it and what claimrun wrote for it."""
 
-    def __init__(self, fields, book, path, number):
-        fields.known(*KEYS)
-        self.book, self.number = book, number
-        self.title = fields.text("title", "Transfer %d" % number)
-        self.transfer = messages.make_transfer(fields, book.names)
-        self.settlement = books.opening_day(fields, "settlement_day", book.calendar)
-        self.contract = fields.date("contract_date") if fields.has("contract_date") else None
-        self.rows = self.chosen_rows(fields)
-        self.records = self.work(fields, path)
+    def __init__(self, fields, book, number, found):
+        """Judges the source; the rows that it names only where all else is right."""
+        fields.known(found, *KEYS)
+        self.fields, self.book, self.number = fields, book, number
+        self.title = found.take(fields.text, "title", "Transfer %d" % number)
+        self.transfer = messages.make_transfer(fields, book.names, found)
+        self.settlement = found.take(books.opening_day, fields, "settlement_day", book.calendar)
+        self.contract = found.take(fields.date, "contract_date", None)
+        if not found.faults:
+            self.judge_rows(found)
 
-    def chosen_rows(self, fields):
+    def judge_rows(self, found):
+        """Finds rows in the source that the security does not have."""
+        filled = [number for number, _ in self.book.rows(self.transfer.security)]
+        allowed = "filled rows of the security: " + (", ".join(map(str, filled)) or "none")
+        for value in found.take(self.fields.items, "rows", allowed) or ():
+            if isinstance(value, bool) or value not in filled:
+                found.add(self.fields.fault("rows", "%s is no such row" % sample(value), allowed))
+
+    def chosen_rows(self):
         """The rows to draw: those that the source names, else those with a date near the transfer's days."""
         filled = self.book.rows(self.transfer.security)
-        if fields.has("rows"):
-            allowed = "filled rows of the security: " + (", ".join(str(number) for number, _ in filled) or "none")
-            for value in fields.items("rows", allowed):
-                if isinstance(value, bool) or value not in [number for number, _ in filled]:
-                    raise fields.fault("rows", "%s is no such row" % value, allowed)
-            return [entry for entry in filled if entry[0] in fields.values["rows"]]
+        if self.fields.has("rows"):
+            return [entry for entry in filled if entry[0] in self.fields.values["rows"]]
         first = min(self.contract or self.settlement, self.settlement)
         last = max(self.contract or self.settlement, self.settlement)
         return [(number, row) for number, row in filled
                 if any(day is not None and first - DAYS_BEFORE <= day <= last + DAYS_AFTER
                        for day in map(dates.of_number, row[:3]))]
 
-    def work(self, fields, path):
-        """claimrun's records for this transfer alone, on a book opened on its settlement day."""
+    def work(self, path):
+        """Runs claimrun for this transfer alone, on a book opened on its settlement day."""
+        self.rows = self.chosen_rows()
         opened = books.Book(self.book.calendar, self.book.tables, dates.number(self.settlement), self.book.names)
         with tempfile.TemporaryDirectory(prefix="claimdesk-") as folder:
             run = running.Run(path, folder, opened, running.Progress())
-            run.messages([Plain(fields)])
+            run.messages([Plain(self.fields)], Mistakes())
             run.work()
             with run.output() as output:
-                return list(claims.records(output, "claimrun's output"))
+                self.records = list(claims.records(output, "claimrun's output"))
 
     def events(self):
         """The dates to mark."""
@@ -164,16 +171,25 @@ def fold(side):
     return "<details>\n<summary>Who owes what? %s</summary>\n%s\n</details>\n" % (escape(side.title), side.outcome())
 
 
-def page(source, book, path):
+def sides_of(source, book, found):
+    """The two [[transfer]] tables of a source."""
+    transfers = found.take(source.top.tables, "transfer") or []
+    if len(transfers) != 2:
+        found.add(Fault(source.path, "has %d [[transfer]] tables" % len(transfers), "two", 1))
+    return [Side(fields, book, number, found) for number, fields in enumerate(transfers, 1)]
+
+
+def page(source, book, path, found):
     """The page for a source with two [[transfer]] tables."""
     top = source.top
-    transfers = top.tables("transfer")
-    if len(transfers) != 2:
-        raise Fault(source.path, "has %d [[transfer]] tables" % len(transfers), "two")
+    sides = sides_of(source, book, found)
+    title, question = found.take(top.text, "title", TITLE), found.take(top.text, "question", "")
+    found.end()
     path = running.program(path)
-    sides = [Side(fields, book, path, number) for number, fields in enumerate(transfers, 1)]
+    for side in sides:
+        side.work(path)
     scale = timeline.Scale([side.events() for side in sides], book.calendar)
-    title, question = escape(top.text("title", TITLE)), top.text("question", "")
+    title = escape(title)
     asked = "<p>%s</p>\n" % escape(question) if question else ""
     asked += "<p>Hatched: a closed day.</p>\n"
     return ('<!DOCTYPE html>\n<html lang="en">\n<head>\n<meta charset="utf-8">\n'

@@ -1,6 +1,6 @@
 """The source that stands for a book: text that make turns into the same bytes."""
 from . import calendars, dates, factors, layout
-from .book import row_problem
+from .book import row_problems
 
 
 def show(book):
@@ -32,7 +32,7 @@ def show_security(book, number, tables, last_open):
     before = None
     for row_number in range(layout.ROWS):
         row = sayable(layout.row_at(book.tables, number, row_number))
-        if row is None or row_problem(row, before, last_open):
+        if row is None or row_problems(row, before, last_open):
             break
         place = layout.row_place(number, row_number)
         tables[place:place + layout.ROW_WORDS] = row

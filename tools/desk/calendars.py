@@ -45,22 +45,33 @@ def by_rule(weekdays, first, last):
     return [day for day in dates.every_day(first, last) if day.weekday() in weekdays]
 
 
-def make(fields):
-    """The words of a [calendar] table."""
-    fields.known("weekdays", "first", "last", "holidays", "closed", "open")
-    weekdays = set()
-    for name in fields.items("weekdays", ", ".join(dates.WEEKDAYS)) if fields.has("weekdays") else DEFAULT:
-        if not isinstance(name, str) or name not in ALL_WEEKDAYS:
-            raise fields.fault("weekdays", "%s is no weekday" % sample(name), ", ".join(dates.WEEKDAYS))
-        weekdays.add(ALL_WEEKDAYS[name])
-    first, last = fields.date("first", dates.FIRST), fields.date("last", dates.LAST)
-    if last < first:
-        raise fields.fault("last", "%s is before first, %s" % (last, first), "a date on or after first")
-    closed = set(fields.date_list("holidays")) | set(fields.date_list("closed"))
-    extra = set(fields.date_list("open"))
+def make(fields, found):
+    """The words of a [calendar] table, or None where it has mistakes."""
+    before = found.count
+    fields.known(found, "weekdays", "first", "last", "holidays", "closed", "open")
+    weekdays = make_weekdays(fields, found)
+    first, last = found.take(fields.date, "first", dates.FIRST), found.take(fields.date, "last", dates.LAST)
+    if first and last and last < first:
+        found.add(fields.fault("last", "%s is before first, %s" % (last, first), "a date on or after first"))
+    closed = fields.date_set("holidays", found) | fields.date_set("closed", found)
+    extra = fields.date_set("open", found)
     for day in sorted(closed & extra):
-        raise fields.fault("open", "%s is listed as open and as closed" % day, "a day in one of the lists")
+        found.add(fields.fault("open", "%s is listed as open and as closed" % day, "a day in one of the lists"))
+    if found.count > before:
+        return None
     return of_days((set(by_rule(weekdays, first, last)) - closed) | extra)
+
+
+def make_weekdays(fields, found):
+    """The open days of the week, by their numbers."""
+    allowed = ", ".join(dates.WEEKDAYS)
+    weekdays = set()
+    for name in found.take(fields.items, "weekdays", allowed) or () if fields.has("weekdays") else DEFAULT:
+        if isinstance(name, str) and name in ALL_WEEKDAYS:
+            weekdays.add(ALL_WEEKDAYS[name])
+        else:
+            found.add(fields.fault("weekdays", "%s is no weekday" % sample(name), allowed))
+    return weekdays
 
 
 def usual_weekdays(days):

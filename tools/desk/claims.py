@@ -39,6 +39,11 @@ FIELD_RANGES = (("type", CLAIM_TYPES), ("outcome", range(4)), ("payer", range(la
 
 def records(file, name):
     """The claims and answers in a file of claimrun's output, in order."""
+    return (record for _, record in placed(file, name))
+
+
+def placed(file, name):
+    """The same with the place of each record's first byte."""
     place = 0
     while data := file.read(layout.HEADER.size):
         header = layout.HEADER.unpack(data) if len(data) == layout.HEADER.size else None
@@ -55,7 +60,7 @@ def records(file, name):
         fault = problem(record)
         if fault:
             raise Fault("%s: byte %d" % (name, place), *fault)
-        yield record
+        yield place, record
         place += form.size
 
 
@@ -69,6 +74,13 @@ def problem(record):
         if getattr(record, field) not in allowed:
             return "a claim with %s %d" % (field, getattr(record, field)), ", ".join(map(str, allowed))
     return None
+
+
+def judge_row(book, claim, where):
+    """Refuses a claim on a row that the book does not have."""
+    if not any(layout.row_at(book.tables, claim.security, claim.row)):
+        raise Fault(where, "a claim on security %d, row %d, which the book does not have: it is not this book" % (
+            claim.security, claim.row), "the book with which claimrun was run")
 
 
 def money(cents):

@@ -108,8 +108,10 @@ def show(form, output, name, book=None, calls=None, tick=lambda count: None):
         output.seek(0)
         return claims.numbered(claims.records(output, name), calls() if calls is not None else None)
 
-    for _ in claims.records(output, name):
-        pass
+    output.seek(0)
+    for place, record in claims.placed(output, name):
+        if book is not None and isinstance(record, layout.Claim):
+            claims.judge_row(book, record, "%s: byte %d" % (name, place))
     pieces = {"text": text, "csv": as_csv, "json": as_json}[form](numbered, book, names)
     for count, piece in enumerate(pieces):
         tick(count)

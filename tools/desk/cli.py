@@ -2,17 +2,27 @@
 import argparse
 import os
 import shutil
+import signal
 import sys
 import tempfile
 
-from . import board, book, book_text, claims_text, files, layout, message_text, messages, running
-from .errors import Fault
+from . import board, book, book_text, checking, claims_text, files, layout, message_text, messages, running
+from .errors import Fault, Mistakes
 from .names import Names
 from .sources import Source
 
 PIECE = 1 << 16
 BROKEN_PIPE = 141
 INTERRUPTED = 130
+TERMINATED = 143
+
+
+class Terminated(BaseException):
+    """The signal that asks the desk to end; what it has begun is taken away on the way out."""
+
+
+def on_terminate(number, frame):
+    raise Terminated
 
 
 def pieces(file):
@@ -22,8 +32,9 @@ def pieces(file):
 
 
 def book_make(args):
-    source = Source(args.source)
-    made = book.make(source)
+    found = Mistakes()
+    made = book.make(Source(args.source), found)
+    found.end()
     files.write(args.output or "book.dat", [made.bytes()], made.paths)
 
 
@@ -35,18 +46,20 @@ def book_show(args):
 def messages_make(args):
     if args.output is None and sys.stdout.isatty():
         raise Fault("standard output", "is a terminal, and the records are bytes", "-o FILE, or a pipe to claimrun")
+    found = Mistakes()
     source = None if messages.is_csv(args.source) else Source(args.source)
-    names, paths = names_for(args, source)
-    sequence, read_paths = messages.sequence(args.source, source)
+    names, paths = names_for(args, source, found)
+    sequence, read_paths = messages.sequence(args.source, found, source)
     progress = running.Progress()
     with tempfile.TemporaryFile() as file:
-        messages.make_into(file, sequence, names, lambda count: progress.show("%d messages made", count))
+        messages.make_into(file, sequence, names, found, lambda count: progress.show("%d messages made", count))
         progress.end()
+        found.end()
         file.seek(0)
         files.write(args.output, pieces(file), paths + read_paths)
 
 
-def names_for(args, source):
+def names_for(args, source, found):
     """The names that messages may use: those of --book, else those of the book in the same source."""
     if args.book is not None:
         given = book.read(args.book)
@@ -54,7 +67,7 @@ def names_for(args, source):
     if source is None:
         return Names(), []
     if any(source.top.has(key) for key in ("accounts", "security", "book")):
-        given = book.make(source, needs_day=False)
+        given = book.make(source, found, needs_day=False)
         return given.names, given.paths
     return Names(), []
 
@@ -84,22 +97,80 @@ def spooled(path):
 
 
 def claims_show(args):
+    """A failed check is told once the records are shown; a file is not written then."""
     given = book.read(args.book) if args.book is not None else None
     name = args.file or "standard input"
     with spooled(args.file) as output:
-        paths = ([args.file] if args.file else []) + (given.paths if given else [])
+        fault = messages_fault(args.messages, output, name)
+        if fault is not None and args.output is not None:
+            raise fault
+        paths = [path for path in (args.file, args.messages) if path] + (given.paths if given else [])
         files.write(args.output, claims_text.show(args.format, output, name, given), paths)
+    if fault is not None:
+        raise fault
+
+
+def messages_fault(path, output, name):
+    """What is wrong with the output as the answers to a file of messages; None where nothing is, or where no file is given."""
+    if path is None:
+        return None
+    with spooled(path) as sent:
+        try:
+            checking.check(layout.messages(sent), output, name)
+        except Fault as fault:
+            return fault
+    return None
+
+
+def claims_check(args):
+    with spooled(args.messages) as sent, spooled(args.claims) as output:
+        found = checking.check(layout.messages(sent), output, args.claims)
+    files.write(args.output, [(found.words() + "\n").encode("utf-8")], [args.messages, args.claims])
+
+
+def check(args):
+    """Judges what a source holds, and runs nothing."""
+    found = Mistakes()
+    source = None if messages.is_csv(args.source) else Source(args.source)
+    held, names = judge_book(args, source, found)
+    if source is None or source.top.has("message") or source.top.has("messages"):
+        count = count_messages(args.source, source, names, found)
+        held.append("%s message%s" % (format(count, ","), "" if count == 1 else "s"))
+    found.end()
+    files.write(args.output, [("%s: no mistakes in %s\n" % (args.source, " and ".join(held))).encode("utf-8")], [args.source])
+
+
+def judge_book(args, source, found):
+    """Judges the book and the pair of a source; what it holds of them in words, and the names that its messages may use. A source of
+    messages alone holds neither, and has the names of --book."""
+    has = source.top.has if source is not None else lambda key: key == "message"
+    if not any(map(has, book.KEYS + ("book", "transfer"))) and (has("message") or has("messages")):
+        return [], book.read(args.book).names if args.book is not None else Names()
+    made = book.make(source, found, needs_day=not has("transfer"))
+    if has("transfer"):
+        board.sides_of(source, made, found)
+    return ["the book"] + ["two transfers"] * has("transfer"), made.names
+
+
+def count_messages(path, source, names, found):
+    """How many messages a source makes."""
+    with tempfile.TemporaryFile() as file:
+        messages.make_into(file, messages.sequence(path, found, source)[0], names, found)
+        file.seek(0)
+        return sum(1 for _ in layout.messages(file))
 
 
 def run(args):
+    found = Mistakes()
     source = Source(args.source)
-    made = book.make(source)
-    sequence, paths = messages.sequence(args.source, source)
+    made = book.make(source, found)
+    sequence, paths = messages.sequence(args.source, found, source)
     progress = running.Progress()
     with tempfile.TemporaryDirectory(prefix="claimdesk-") as folder:
         work = running.Run(args.claimrun, folder, made, progress)
         try:
-            work.messages(sequence)
+            work.messages(sequence, found)
+            found.end()
             work.work()
             if args.output is None and sys.stdout.isatty():
                 progress.end()
@@ -112,9 +183,10 @@ def run(args):
 
 
 def board_make(args):
+    found = Mistakes()
     source = Source(args.source)
-    made = book.make(source, needs_day=False)
-    page = board.page(source, made, args.claimrun)
+    made = book.make(source, found, needs_day=False)
+    page = board.page(source, made, args.claimrun, found)
     files.write(args.output, [page.encode("utf-8")], made.paths)
 
 
@@ -145,11 +217,18 @@ def parser():
     made = command(group, "show", messages_show, "show message records as a source that makes the same bytes")
     made.add_argument("file", metavar="FILE", nargs="?", help="records (standard input)")
     made.add_argument("--format", choices=("toml", "csv"), default="toml")
-    group = pair("claims", "show claimrun's output")
+    group = pair("claims", "show claimrun's output, or check it against the messages")
     made = command(group, "show", claims_show, "show the claims and answers that claimrun wrote")
     made.add_argument("file", metavar="FILE", nargs="?", help="claimrun's output (standard input)")
     made.add_argument("--book", metavar="book.dat|SOURCE.toml", help="take Beneficiary Dates and names from this book")
+    made.add_argument("--messages", metavar="FILE", help="fail where the output does not answer these message records")
     made.add_argument("--format", choices=claims_text.FORMATS, default="text")
+    made = command(group, "check", claims_check, "see that claimrun's output answers each message, and is not cut")
+    made.add_argument("messages", metavar="MESSAGES", help="the message records that were sent")
+    made.add_argument("claims", metavar="CLAIMS", help="claimrun's output")
+    made = command(groups, "check", check, "judge a source, and run nothing")
+    made.add_argument("source", metavar="SOURCE.toml|SOURCE.csv")
+    made.add_argument("--book", metavar="SOURCE.toml", help="for messages alone: take the names from this source")
     made = command(groups, "run", run, "make book and messages, run claimrun and show its claims")
     made.add_argument("source", metavar="SOURCE.toml")
     made.add_argument("--format", choices=claims_text.FORMATS, default="text")
@@ -163,17 +242,28 @@ def parser():
 def main(argv=None):
     """Works the command line and gives the exit status."""
     args = parser().parse_args(argv)
+    before = signal.signal(signal.SIGTERM, on_terminate)
+    try:
+        return status_of(args)
+    except Terminated:
+        return TERMINATED
+    finally:
+        signal.signal(signal.SIGTERM, before)
+
+
+def status_of(args):
+    """Works a command and gives the exit status."""
     try:
         args.work(args)
         return 0
     except Fault as fault:
-        print("claimdesk: %s" % fault, file=sys.stderr)
+        print(fault, file=sys.stderr)
         return 1
     except BrokenPipeError:
         os.dup2(os.open(os.devnull, os.O_WRONLY), sys.stdout.fileno())
         return BROKEN_PIPE
     except OSError as error:
-        print("claimdesk: %s" % files.trouble(error.filename or "standard output", error), file=sys.stderr)
+        print(files.trouble(error.filename or "standard output", error), file=sys.stderr)
         os.dup2(os.open(os.devnull, os.O_WRONLY), sys.stdout.fileno())
         return 1
     except KeyboardInterrupt:

@@ -8,6 +8,7 @@ ALLOWED = "a date from 2000-01-01 to 2039-12-31, written 2023-04-01 or \"2023040
 WEEKDAYS = ("Monday", "Tuesday", "Wednesday", "Thursday", "Friday", "Saturday", "Sunday")
 ONE_DAY = datetime.timedelta(days=1)
 FORM = re.compile(r"([0-9]{4})-([0-9]{2})-([0-9]{2})|([0-9]{4})([0-9]{2})([0-9]{2})")
+OTHER_FORM = re.compile(r"([0-9]{4})[/.-]([0-9]{1,2})[/.-]([0-9]{1,2})|([0-9]{1,2})[/.-]([0-9]{1,2})[/.-]([0-9]{4})")
 
 
 def number(day):
@@ -36,6 +37,24 @@ def read(value):
     if isinstance(value, int) and not isinstance(value, bool):
         return of_number(value)
     return None
+
+
+def meant(value):
+    """A hint for a date in another form: 05/10/2024 may mean two days."""
+    match = OTHER_FORM.fullmatch(value.strip()) if isinstance(value, str) else None
+    if not match:
+        return ""
+    if match[1]:
+        found = [of_parts(match[1], match[2], match[3])]
+    else:
+        found = [of_parts(match[6], match[4], match[5]), of_parts(match[6], match[5], match[4])]
+    days = [str(day) for day in dict.fromkeys(found) if day is not None]
+    return " (meant: %s?)" % " or ".join(days) if days else ""
+
+
+def of_parts(year, month, day):
+    """The date with these digits, or None."""
+    return of_number(int(year) * 10000 + int(month) * 100 + int(day))
 
 
 DAYS = [datetime.date.fromordinal(place) for place in range(FIRST.toordinal(), LAST.toordinal() + 1)]

@@ -30,7 +30,7 @@ def read_text(path):
         return data.decode("utf-8-sig")
     except UnicodeDecodeError as error:
         line = data.count(b"\n", 0, error.start) + 1
-        raise Fault("%s: line %d" % (path, line), "byte %d is not UTF-8" % error.start, "text in UTF-8") from None
+        raise Fault(path, "byte %d is not UTF-8" % error.start, "text in UTF-8", line) from None
 
 
 def apart(target, sources):

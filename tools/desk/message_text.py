@@ -5,7 +5,7 @@ import re
 from itertools import groupby
 
 from . import dates, layout, messages
-from .errors import Fault
+from .errors import Fault, Mistakes
 from .names import Names
 
 TAG = re.compile(rb"\{98A:CNTR/([0-9]{8})\}")
@@ -25,11 +25,8 @@ def values_of(message):
         return {"hex": message.data.hex()}
     record = layout.transfer_bytes(message)
     for values in candidates(message):
-        try:
-            if messages.make_one(Shown(values), Names()) == record:
-                return values
-        except Fault:
-            pass
+        if messages.make_one(Shown(values), Names(), Mistakes()) == record:
+            return values
     return {"hex": record.hex()}
 
 

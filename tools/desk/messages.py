@@ -6,7 +6,7 @@ import re
 
 from . import book, dates, files, layout, names
 from .errors import Fault
-from .sources import Fields, Source, listing, sample
+from .sources import Fields, Source, listing, meant, sample
 
 TRANSFER_KEYS = ("sender", "receiver", "security", "market", "code", "par", "contract_date", "text1", "text2",
                  "line1_hex", "line2_hex")
@@ -26,8 +26,7 @@ class CsvRow(Fields):
         self.path, self.line = path, line
 
     def fault(self, key, what, allowed=None):
-        where = "%s: line %d" % (self.path, self.line)
-        return Fault("%s: %s" % (where, key) if key else where, what, allowed)
+        return Fault(self.path, what, allowed, self.line, key)
 
 
 def tag(day):
@@ -35,49 +34,68 @@ def tag(day):
     return "{98A:CNTR/%d}" % dates.number(day)
 
 
-def make_one(fields, its_names):
-    """The bytes of one message of a source."""
-    for key in ("hex", "close"):
-        other = next((other for other in fields.values if other != key), None)
-        if fields.has(key) and other is not None:
+def make_one(fields, its_names, found):
+    """The bytes of one message of a source, or None where it has mistakes."""
+    for key, make in (("hex", make_hex), ("close", make_closes)):
+        if fields.has(key):
+            return found.take(alone, fields, key, make)
+    fields.known(found, *COLUMNS)
+    transfer = make_transfer(fields, its_names, found)
+    return None if transfer is None else layout.transfer_bytes(transfer)
+
+
+def alone(fields, key, make):
+    """What a key that stands alone in its message makes."""
+    for other in fields.values:
+        if other != key:
             raise fields.fault(other, "stands beside %s" % key, "%s alone in its message" % key)
-    if fields.has("hex"):
-        return hex_bytes(fields, "hex", None)
-    if fields.has("close"):
-        if fields.values["close"] is True:
-            return layout.CLOSE_BYTES
-        return layout.CLOSE_BYTES * fields.integer("close", 1, CLOSES_MAX)
-    fields.known(*COLUMNS)
-    return layout.transfer_bytes(make_transfer(fields, its_names))
+    return make(fields)
 
 
-def make_transfer(fields, its_names):
-    """The transfer that the fields describe."""
-    sender, receiver = (names.account(fields, key, its_names) for key in ("sender", "receiver"))
-    if sender == receiver:
-        raise fields.fault("receiver", "account %d is the sender too" % receiver, "another account than the sender's")
-    security = names.security(fields, "security", its_names)
-    market = fields.choice("market", layout.MARKETS, "secondary")
-    code = fields.choice("code", layout.CODES, "none")
-    par = fields.integer("par", 1, layout.PAR_MAX)
-    return layout.Transfer(sender, receiver, security, market, code, par, *make_lines(fields))
+def make_hex(fields):
+    return hex_bytes(fields, "hex", None)
 
 
-def make_lines(fields):
+def make_closes(fields):
+    if fields.values["close"] is True:
+        return layout.CLOSE_BYTES
+    return layout.CLOSE_BYTES * fields.integer("close", 1, CLOSES_MAX)
+
+
+def make_transfer(fields, its_names, found):
+    """The transfer that the fields describe, or None where they have mistakes."""
+    before = found.count
+    sender, receiver = (found.take(names.account, fields, key, its_names) for key in ("sender", "receiver"))
+    if sender is not None and sender == receiver:
+        found.add(fields.fault("receiver", "account %d is the sender too" % receiver, "another account than the sender's"))
+    security = found.take(names.security, fields, "security", its_names)
+    market = found.take(fields.choice, "market", layout.MARKETS, "secondary")
+    code = found.take(fields.choice, "code", layout.CODES, "none")
+    par = found.take(fields.integer, "par", 1, layout.PAR_MAX)
+    lines = make_lines(fields, found)
+    return None if found.count > before else layout.Transfer(sender, receiver, security, market, code, par, *lines)
+
+
+def make_lines(fields, found):
     """The two free text lines, 64 bytes each."""
-    texts = {key: fields.text(key, "") for key in ("text1", "text2")}
+    texts = {key: found.take(fields.text, key, "") or "" for key in ("text1", "text2")}
     if fields.has("contract_date"):
-        written = tag(fields.date("contract_date"))
-        markers = sum(text.count(MARKER) for text in texts.values())
-        if markers > 1:
-            raise fields.fault("text1", "%s stands there more than once" % MARKER, "one place for the tag")
-        if markers == 0:
-            if fields.has("line1_hex"):
-                raise fields.fault("line1_hex", "stands where the tag of contract_date goes",
-                                   "contract_date with text1, or with %s in text2" % MARKER)
-            texts["text1"] = MARKER + texts["text1"]
-        texts = {key: text.replace(MARKER, written) for key, text in texts.items()}
-    return [make_line(fields, number, texts["text%d" % number]) for number in (1, 2)]
+        texts = found.take(with_tag, fields, texts) or texts
+    return [found.take(make_line, fields, number, texts["text%d" % number]) for number in (1, 2)]
+
+
+def with_tag(fields, texts):
+    """The texts with the tag of contract_date in its place."""
+    written = tag(fields.date("contract_date"))
+    markers = sum(text.count(MARKER) for text in texts.values())
+    if markers > 1:
+        raise fields.fault("text1", "%s stands there more than once" % MARKER, "one place for the tag")
+    if markers == 0:
+        if fields.has("line1_hex"):
+            raise fields.fault("line1_hex", "stands where the tag of contract_date goes",
+                               "contract_date with text1, or with %s in text2" % MARKER)
+        texts = texts | {"text1": MARKER + texts["text1"]}
+    return {key: text.replace(MARKER, written) for key, text in texts.items()}
 
 
 def make_line(fields, number, text):
@@ -90,7 +108,7 @@ def make_line(fields, number, text):
     allowed = "at most 64 printable ASCII characters, the tag of contract_date (19) included"
     if not PRINTABLE.fullmatch(text):
         wrong = next(letter for letter in text if not PRINTABLE.fullmatch(letter))
-        raise fields.fault(key, "has the character %s" % ascii(wrong), allowed)
+        raise fields.fault(key, "has the character %s" % wrong, allowed)
     if len(text) > layout.LINE:
         raise fields.fault(key, "the line has %d characters" % len(text), allowed)
     return text.ljust(layout.LINE).encode("ascii")
@@ -124,35 +142,36 @@ def csv_values(cells):
     return values
 
 
-def csv_rows(path):
-    """The lines of a CSV source behind its header line."""
+def csv_rows(path, found):
+    """The lines of a CSV source behind its header line; lines that are wrong as a whole are left out."""
     reader = csv.reader(io.StringIO(files.read_text(path), newline=""), strict=True)
     header = None
     try:
-        for cells in reader:
-            if not any(cells):
-                continue
+        for cells in filter(any, reader):
             if header is None:
-                header = csv_header(path, reader.line_num, cells)
-                continue
-            if len(cells) > len(header):
-                raise Fault("%s: line %d" % (path, reader.line_num), "%d cells" % len(cells),
-                            "%d, as in the header line" % len(header))
-            yield CsvRow(path, reader.line_num, csv_values(dict(zip(header, cells))))
+                header = csv_header(path, reader.line_num, cells, found)
+            elif len(cells) != len(header):
+                found.add(Fault(path, "%d cells" % len(cells), "%d, as in the header line; a cell may be empty, and a number has no "
+                                "comma" % len(header), reader.line_num))
+            else:
+                yield CsvRow(path, reader.line_num, csv_values(dict(zip(header, cells))))
     except csv.Error as error:
-        raise Fault("%s: line %d" % (path, reader.line_num), "no CSV: %s" % error) from None
+        found.add(Fault(path, "no CSV: %s" % error, None, reader.line_num))
     if header is None:
-        raise Fault(path, "has no header line", listing(COLUMNS))
+        found.add(Fault(path, "has no header line", listing(COLUMNS), 1))
 
 
-def csv_header(path, line, cells):
-    """The columns that the header line names."""
+def csv_header(path, line, cells, found):
+    """The columns that the header line names. What stands below is judged only where all of them are known."""
     header = [cell.strip() for cell in cells]
+    before = found.count
     for place, column in enumerate(header):
         if column not in COLUMNS:
-            raise Fault("%s: line %d" % (path, line), "unknown column %s" % sample(column), listing(COLUMNS))
-        if column in header[:place]:
-            raise Fault("%s: line %d" % (path, line), "column %s stands there twice" % column, "each column once")
+            found.add(Fault(path, "unknown column %s%s" % (sample(column), meant(column, COLUMNS)), listing(COLUMNS), line))
+        elif column in header[:place]:
+            found.add(Fault(path, "column %s stands there twice" % column, "each column once", line))
+    if found.count > before:
+        found.end()
     return header
 
 
@@ -160,28 +179,33 @@ def is_csv(path):
     return path.lower().endswith(".csv")
 
 
-def sequence(path, source=None):
+def sequence(path, found, source=None):
     """The messages of a source in order, as Fields: those of a .csv file, of a TOML file, or of the file it names."""
     if is_csv(path):
-        return csv_rows(path), [path]
+        return csv_rows(path, found), [path]
     source = source or Source(path)
     top = source.top
-    top.known(*book.KEYS, *book.OTHER_KEYS)
+    top.known(found, *book.KEYS, *book.OTHER_KEYS)
     if top.has("messages"):
         if top.has("message"):
-            raise top.fault("message", "stands beside messages = \"%s\"" % top.text("messages"), "one of the two")
+            found.add(top.fault("message", "stands beside messages = \"%s\"" % top.text("messages"), "one of the two"))
+            found.end()
         named = os.path.join(os.path.dirname(path), top.text("messages"))
         inner = None if is_csv(named) else Source(named)
         if inner and inner.top.has("messages"):
             raise inner.top.fault("messages", "a file of messages that names another", "[[message]] tables")
-        return sequence(named, inner)[0], [path, named]
+        return sequence(named, found, inner)[0], [path, named]
     if not top.has("message"):
-        raise Fault(path, "has no messages", "[[message]] tables, or messages = \"FILE\"")
-    return top.tables("message"), [path]
+        allowed = "[[message]] tables, or messages = \"FILE\""
+        if "message" not in top.misspelt:
+            found.add(Fault(path, "has no messages", allowed, 1))
+    return found.take(top.tables, "message") or (), [path]
 
 
-def make_into(file, fields_in_order, its_names, tick=lambda count: None):
+def make_into(file, fields_in_order, its_names, found, tick=lambda count: None):
     """Writes the records of a source to a file."""
     for count, fields in enumerate(fields_in_order, 1):
-        file.write(make_one(fields, its_names))
+        data = make_one(fields, its_names, found)
+        if data is not None:
+            file.write(data)
         tick(count)

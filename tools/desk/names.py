@@ -40,13 +40,14 @@ def checked(fields, key, taken):
     return name
 
 
-def read_accounts(fields):
+def read_accounts(fields, found):
     """The names of an [accounts] table."""
     names = {}
     for key in fields.values:
         if key not in map(str, range(layout.ACCOUNTS)):
-            raise fields.fault(key, "is no account", "0 to %d" % (layout.ACCOUNTS - 1))
-        names[int(key)] = checked(fields, key, names)
+            found.add(fields.fault(key, "is no account", "0 to %d" % (layout.ACCOUNTS - 1)))
+        elif name := found.take(checked, fields, key, names):
+            names[int(key)] = name
     return names
 
 

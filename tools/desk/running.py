@@ -1,16 +1,19 @@
 """Running claimrun: in a folder of its own, with book.dat there and the messages on standard input."""
+import functools
 import os
+import signal
 import subprocess
 import sys
 import time
 
-from . import claims, layout, messages
+from . import checking, layout, messages
 from .errors import Fault
 
 ROOT = os.path.dirname(os.path.dirname(os.path.dirname(os.path.realpath(__file__))))
 PROGRAM = os.path.join(ROOT, "target", "bin", "claimrun")
 QUIET_SECONDS = 1.0
 STEP_SECONDS = 0.2
+STOPPING = (signal.SIGINT, signal.SIGTERM)
 
 
 class Progress:
@@ -56,19 +59,24 @@ def run(path, folder, progress):
     """Runs claimrun in a folder that holds book.dat and messages.dat; what it writes is output.dat there."""
     with open(os.path.join(folder, "messages.dat"), "rb", buffering=0) as messages, \
             open(os.path.join(folder, "output.dat"), "wb") as output:
+        mask = signal.pthread_sigmask(signal.SIG_BLOCK, STOPPING)
+        heed = functools.partial(signal.pthread_sigmask, signal.SIG_SETMASK, mask)
         try:
-            process = subprocess.Popen([path], cwd=folder, stdin=messages, stdout=output)
+            process = subprocess.Popen([path], cwd=folder, stdin=messages, stdout=output, preexec_fn=heed)
         except OSError as error:
+            heed()
             raise Fault(path, "cannot be run: %s" % error.strerror) from None
-        wait(process, messages, progress)
+        wait(process, messages, progress, heed)
     if process.returncode != 0:
         raise Fault(path, "claimrun ended with status %d" % process.returncode)
 
 
-def wait(process, messages, progress):
-    """Waits for claimrun; how far it has read shows in the place of the file that it shares with this process."""
+def wait(process, messages, progress, heed):
+    """Waits for claimrun; how far it has read shows in the place of the file that it shares with this process. Signals are heeded
+    from here on, where claimrun ends with the desk."""
     size = os.fstat(messages.fileno()).st_size
     try:
+        heed()
         while True:
             try:
                 process.wait(timeout=STEP_SECONDS)
@@ -87,27 +95,20 @@ class Run:
 
     def __init__(self, path, folder, book, progress):
         self.path, self.folder, self.book, self.progress = program(path), folder, book, progress
-        with open(os.path.join(folder, "book.dat"), "wb") as file:
-            file.write(book.bytes())
 
-    def messages(self, fields_in_order):
+    def messages(self, fields_in_order, found):
         """Writes the messages of a source."""
         with open(os.path.join(self.folder, "messages.dat"), "wb") as file:
-            messages.make_into(file, fields_in_order, self.book.names,
+            messages.make_into(file, fields_in_order, self.book.names, found,
                                lambda count: self.progress.show("%d messages made", count))
 
     def work(self):
         """Runs claimrun and sees that each message got its answer."""
+        with open(os.path.join(self.folder, "book.dat"), "wb") as file:
+            file.write(self.book.bytes())
         run(self.path, self.folder, self.progress)
         with self.output() as output:
-            answered = stopped = 0
-            for record in claims.records(output, "claimrun's output"):
-                if isinstance(record, layout.Answer):
-                    answered += 1
-                    stopped = record.number in claims.BOOK_ANSWERS or record.number == claims.LAST_ANSWER
-        sent = sum(1 for _ in self.calls())
-        if not stopped and answered != sent:
-            raise Fault(self.path, "claimrun answered %d of %d messages" % (answered, sent))
+            checking.check(self.calls(), output, "claimrun's output")
 
     def output(self):
         """claimrun's output as a file."""

@@ -1,17 +1,24 @@
 """Sources: TOML files with the line of each key, and their values taken by key with plain errors."""
+import ast
 import decimal
 import difflib
 import re
 import tomllib
 
 from . import dates, files
-from .errors import Fault
+from .errors import Fault, Untold, shown
 
 REQUIRED = object()
 ARRAY_HEADER = re.compile(r"\s*\[\[\s*([A-Za-z0-9_.-]+)\s*\]\]")
 TABLE_HEADER = re.compile(r"\s*\[\s*([A-Za-z0-9_.-]+)\s*\]")
 KEY = re.compile(r"\s*([A-Za-z0-9_-]+|\"[^\"]*\")\s*=")
 TRIPLE = re.compile(r'"""|\'\'\'')
+OTHER_NUMBER = re.compile(r"[0-9]+|[0-9]{1,3}(,[0-9]{3})+")
+BARE_DATE = re.compile(r"[0-9]+[/.-][0-9]+[/.-][0-9]+")
+BARE_NUMBER = re.compile(r"=\s*([0-9]+(?:,[0-9]+)+)")
+ESCAPED = re.compile(r"'\\(?:x..|u....|U........|.)'")
+SYNTAX = re.compile(r"(.*) \(at (?:line ([0-9]+), column ([0-9]+)|end of document)\)", re.S)
+TOML = "TOML, such as par = 200_000, payment = 2023-04-15 or name = \"text\""
 
 
 def line_table(text):
@@ -65,10 +72,38 @@ def listing(names):
 
 
 def sample(value):
-    """A value as an error shows it."""
-    text = value if isinstance(value, str) else str(value)
+    """A value as an error shows it: as a source would say it, where that is short."""
+    if isinstance(value, bool):
+        return "true" if value else "false"
+    if isinstance(value, (list, dict)):
+        return "a list" if isinstance(value, list) else "a table"
+    text = value if isinstance(value, str) else str(value).lower()
     text = text if len(text) <= 40 else text[:37] + "..."
     return '"%s"' % text if isinstance(value, str) else text
+
+
+def meant(word, allowed):
+    """A hint for a word that is like an allowed one."""
+    close = difflib.get_close_matches(word, allowed, 1)
+    return " (meant: %s?)" % close[0] if close else ""
+
+
+def meant_number(value):
+    """A hint for a whole number that is written with commas or in quotes."""
+    if not isinstance(value, str) or not OTHER_NUMBER.fullmatch(value.strip()):
+        return ""
+    return " (meant: %s?)" % value.strip().replace(",", "")
+
+
+def other_form(line):
+    """What is wrong with the first date or number in a line of a source that has another form; None if none has."""
+    for text in BARE_DATE.findall(line):
+        if dates.read(text) is None and dates.meant(text):
+            return "%s is no date here%s" % (text, dates.meant(text))
+    number = BARE_NUMBER.search(line)
+    if number and meant_number(number[1]):
+        return "%s is no whole number%s" % (number[1], meant_number(number[1]))
+    return None
 
 
 class Fields:
@@ -76,17 +111,17 @@ class Fields:
 
     def __init__(self, values):
         self.values = values
+        self.misspelt = set()
 
     def fault(self, key, what, allowed=None):
         raise NotImplementedError
 
-    def known(self, *allowed):
-        """Refuses keys other than these."""
+    def known(self, found, *allowed):
+        """Finds keys other than these."""
         for key in self.values:
             if key not in allowed:
-                close = difflib.get_close_matches(key, allowed, 1)
-                hint = " (meant: %s?)" % close[0] if close else ""
-                raise self.fault(key, "unknown key%s" % hint, listing(allowed))
+                self.misspelt.update(difflib.get_close_matches(key, allowed, 1))
+                found.add(self.fault(key, "unknown key%s" % meant(key, allowed), listing(allowed)))
 
     def has(self, key):
         return key in self.values
@@ -95,8 +130,12 @@ class Fields:
         if key in self.values:
             return self.values[key]
         if default is REQUIRED:
-            raise self.fault(key, "is missing", allowed)
+            raise self.missing(key, allowed)
         return default
+
+    def missing(self, key, allowed):
+        """A Fault for a key that is not there; untold where it is there, misspelt."""
+        return (Untold if key in self.misspelt else self.fault)(key, "is missing", allowed)
 
     def integer(self, key, low, high, default=REQUIRED):
         """A whole number from low to high."""
@@ -104,7 +143,7 @@ class Fields:
         value = self.value(key, allowed, default)
         if key in self.values:
             if not isinstance(value, int) or isinstance(value, bool):
-                raise self.fault(key, "%s is no whole number" % sample(value), allowed)
+                raise self.fault(key, "%s is no whole number%s" % (sample(value), meant_number(value)), allowed)
             if not low <= value <= high:
                 raise self.fault(key, "%s is out of range" % format(value, ","), allowed)
         return value
@@ -118,7 +157,7 @@ class Fields:
     def date_of(self, key, value):
         day = dates.read(value)
         if day is None:
-            raise self.fault(key, "%s is no date here" % sample(value), dates.ALLOWED)
+            raise self.fault(key, "%s is no date here%s" % (sample(value), dates.meant(value)), dates.ALLOWED)
         return day
 
     def items(self, key, allowed):
@@ -128,8 +167,10 @@ class Fields:
             raise self.fault(key, "%s is no list" % sample(value), "a list in [ ] of: " + allowed)
         return value
 
-    def date_list(self, key):
-        return [self.date_of(key, value) for value in self.items(key, dates.ALLOWED)]
+    def date_set(self, key, found):
+        """The dates of a list that are dates."""
+        days = (found.take(self.date_of, key, value) for value in found.take(self.items, key, dates.ALLOWED) or ())
+        return {day for day in days if day is not None}
 
     def choice(self, key, names, default=REQUIRED):
         """The number of a name."""
@@ -187,23 +228,22 @@ class Source:
         try:
             values = tomllib.loads(text, parse_float=decimal.Decimal)
         except tomllib.TOMLDecodeError as error:
-            raise Fault(*self.syntax(str(error)), "TOML, such as par = 200_000 or name = \"text\"") from None
-        except (RecursionError, ValueError, ArithmeticError) as error:
-            raise Fault(path, "cannot be read as TOML: %s" % error) from None
+            raise self.syntax(str(error), text.split("\n")) from None
+        except RecursionError:
+            raise Fault(path, "cannot be read as TOML: lists within lists, too many", TOML, 1) from None
+        except (ValueError, ArithmeticError):
+            raise Fault(path, "cannot be read as TOML: a number that is too long", TOML, 1) from None
         self.lines = line_table(text)
         self.top = Table(self, (), values)
 
-    def syntax(self, words):
-        """Place and words of an error of the TOML reader."""
-        match = re.fullmatch(r"(.*) \(at (?:line (\d+), column (\d+)|end of document)\)", words, re.S)
-        if not match:
-            return self.path, words
-        if match[2] is None:
-            return "%s: at its end" % self.path, match[1]
-        return "%s: line %s, column %s" % (self.path, match[2], match[3]), match[1]
+    def syntax(self, error, lines):
+        """A Fault for what the TOML reader says; where the line has a date or a number in another form, that is told instead."""
+        words, line, column = SYNTAX.fullmatch(error).groups()
+        line = int(line or len(lines))
+        words = ESCAPED.sub(lambda letter: shown(ast.literal_eval(letter[0])), words)
+        return Fault(self.path, other_form(lines[line - 1]) or ("column %s: %s" % (column, words) if column else words), TOML, line)
 
     def fault(self, path, what, allowed=None):
-        """A Fault at a key's path, with the line of the key or, where it is absent, of its table."""
+        """A Fault at a key's path, with the line of the key or, where it is absent, of its table; the file's first line for its own."""
         known = next((path[:size] for size in range(len(path), 0, -1) if path[:size] in self.lines), None)
-        where = self.path if known is None else "%s: line %d" % (self.path, self.lines[known])
-        return Fault("%s: %s" % (where, path_words(path)) if path else where, what, allowed)
+        return Fault(self.path, what, allowed, 1 if known is None else self.lines[known], path_words(path) if path else None)

@@ -78,6 +78,10 @@ contract_date = 2023-03-15
 """
 
 
+# What belongs to Python and not to a source.
+PYTHON_WORDS = r"\b(True|False|None)\b|\\[a-z]|<class|Error\b|datetime\\.|Decimal"
+
+
 def content(path):
     """The bytes of a file."""
     with open(path, "rb") as file:
@@ -124,11 +128,16 @@ class Desk(unittest.TestCase):
         return output
 
     def bad(self, *args, given=b""):
-        """The error of a call that must fail with status 1 and print nothing else: one line."""
+        """The errors of a call that must fail with status 1 and print nothing else, each a line with file and line or the desk's name."""
         status, output, errors = self.call(*args, given=given)
         self.assertEqual((status, output), (1, b""), errors)
-        self.assertTrue(errors.startswith("claimdesk: ") and errors.count("\n") == 1, errors)
+        self.plain(errors)
         return errors
+
+    def plain(self, errors):
+        """The errors are lines of the right form, and no words of Python."""
+        self.assertRegex(errors, r"\A((claimdesk|[^:\n]+:[0-9]+): [^\n]+\n)+\Z")
+        self.assertNotRegex(errors, PYTHON_WORDS)
 
     def command(self, *args, **words):
         """claimdesk as a process of its own."""

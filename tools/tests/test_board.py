@@ -163,6 +163,7 @@ frequency = "annual"
 record = 2000-01-01
 beneficiary = 2000-01-01
 payment = 2039-12-30
+interest = 0
 [[transfer]]
 settlement_day = 2000-01-03
 sender = 0

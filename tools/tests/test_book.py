@@ -71,6 +71,22 @@ restricted = [0, "Last Bank"]
             data = words(self.made(BOOK.replace('"0.005"', text, 1)))
             self.assertEqual(data[480 + 5], billionths, text)
 
+    def test_one_of_both_factors_is_enough(self):
+        for text, words_of_row in (('interest = "0.1"', (100_000_000, 0)), ('principal = "0.1"', (0, 100_000_000)),
+                                   ("interest = 0", (0, 0))):
+            data = words(self.made(BOOK.replace('interest = "0.005"', text, 1)))
+            self.assertEqual(tuple(data[480 + 5:480 + 7]), words_of_row)
+
+    def test_payments_behind_a_final_one(self):
+        """They are made, with a warning for each final payment that is not the last."""
+        both = BOOK.replace('interest = "0.005"', 'interest = "0.005"\nfinal = true')
+        status, _, errors = self.call("book", "make", self.file("book.toml", both), "-o", self.path("book.dat"))
+        self.assertEqual(status, 0)
+        self.assertEqual(errors.count("\n"), 1)
+        self.assertIn("book.toml:18: warning: [[security]] 1, payment 1, final: redeems the security, and payments stand behind it", errors)
+        data = words(content(self.path("book.dat")))
+        self.assertEqual((data[480 + 7], data[480 + 14]), (1, 1))
+
     def test_random_files(self):
         dice = random.Random(1)
         for _ in range(4):

@@ -45,6 +45,17 @@ class Claims(common.Desk):
         for words in ("2023-04-01", "1 First Bank", "2 Second Bank", "0 Pool"):
             self.assertIn(words, named)
 
+    def test_another_book(self):
+        """A claim on a row that the book does not have is no claim of this book."""
+        self.shown(claim(row=1) + answer(0), "--book", CASE_BOOK)
+        for record, words in ((claim(row=2), "security 0, row 2"), (claim(security=3), "security 3, row 0")):
+            path = self.file("out.dat", OUTPUT + record + answer(0))
+            for book in (CASE_BOOK, self.file("s.toml", BOOK)):
+                for form in ("text", "csv", "json"):
+                    error = self.bad("claims", "show", path, "--book", book, "--format", form)
+                    self.assertIn("out.dat: byte 41: a claim on %s, which the book does not have: it is not this book" % words, error)
+            self.good("claims", "show", path)
+
     def test_columns_are_aligned(self):
         data = claim(payer=15, interest=1) + claim(interest=1_800_000_000_000, principal=2 ** 64 - 1) + answer(0)
         head, first, second = self.shown(data).split("\n")[:3]

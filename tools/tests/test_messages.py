@@ -96,7 +96,7 @@ class Messages(common.Desk):
         text = ("sender,receiver,security,market,code,par,contract_date,text1,text2,close\n"
                 "1,Second Bank,Pool,,,200000,20230315,,,\n\n"
                 "2,1,0,other,SLST,1_000,2023-03-15,,\"a, \"\"b\"\"\",\n"
-                ",,,,,,,,,2\n,,,,,,,,,true\n1,2,0,,,5\n")
+                ",,,,,,,,,2\n,,,,,,,,,true\n1,2,0,,,5,,,,\n")
         book = self.file("book.toml", BOOK)
         self.assertEqual(self.good("messages", "make", self.file("m.csv", text), "--book", book),
                          TRANSFER + record(2, 1, 0, 1, 1, 1000, b"{98A:CNTR/20230315}", b'a, "b"') + CLOSE * 3 + record(par=5))

@@ -5,6 +5,7 @@ import pty
 import signal
 import subprocess
 import sys
+import time
 import unittest
 
 import common
@@ -72,7 +73,7 @@ class Runs(common.Desk):
     def test_another_program_in_its_place(self):
         source = self.file("s.toml", BOOK + MESSAGES)
         for text, words in (("exit 3", "claimrun ended with status 3"), ("kill -9 $$", "claimrun ended with status -9"),
-                            ("cat >/dev/null", "claimrun answered 0 of 3 messages"),
+                            ("cat >/dev/null", "claimrun's output: its end, byte 0: message 1 of 3 has no answer: the output is cut"),
                             ("echo hello", "byte 0: no claim or answer begins here")):
             self.assertIn(words, self.bad("run", source, "--claimrun", self.program(text)))
 
@@ -141,7 +142,8 @@ class Runs(common.Desk):
 
     def test_progress_of_long_work(self):
         self.file("s.toml", BOOK + MESSAGES)
-        slow = self.program('dd bs=4 count=1 of=/dev/null 2>/dev/null; sleep 1.5; exec "%s"' % running.PROGRAM)
+        waits = "import os, time; os.read(0, 4); time.sleep(1.5); os.lseek(0, 0, os.SEEK_SET)"
+        slow = self.program('"%s" -c "%s"; exec "%s"' % (sys.executable, waits, running.PROGRAM))
         status, seen = self.terminal("run", "s.toml", "--claimrun", slow)
         self.assertIn(b"claimrun: 4 of 149 bytes read", seen)
         self.assertTrue(seen.endswith(b"\r"))
@@ -165,6 +167,29 @@ class Runs(common.Desk):
         status, seen = self.terminal("run", "s.toml", "--claimrun", slow, stop=signal.SIGINT)
         self.assertEqual(status, 130)
         self.assertNotIn(b"Traceback", seen)
+
+    def ended_by(self, number):
+        """Status and standard error of a run that a signal meets while claimrun works, and what is left of its temporary files."""
+        os.makedirs(self.path("tmp"), exist_ok=True)
+        self.file("s.toml", BOOK + MESSAGES)
+        slow = self.program('echo $$ > "%s"; exec sleep 20' % self.path("started"))
+        process = subprocess.Popen([sys.executable, COMMAND, "run", "s.toml", "--claimrun", slow, "-o", "claims.txt"], cwd=self.folder,
+                                   stderr=subprocess.PIPE, env=os.environ | {"TMPDIR": self.path("tmp")})
+        while not os.path.exists(self.path("started")) or not content(self.path("started")).endswith(b"\n"):
+            self.assertIsNone(process.poll())
+            time.sleep(0.01)
+        self.assertEqual(len(os.listdir(self.path("tmp"))), 1)
+        process.send_signal(number)
+        errors = process.communicate(timeout=60)[1]
+        return process.returncode, errors, os.listdir(self.path("tmp"))
+
+    def test_terminated(self):
+        """Nothing is left behind: no folder, no output, no claimrun."""
+        for number, status in ((signal.SIGTERM, 143), (signal.SIGINT, 130)):
+            self.assertEqual(self.ended_by(number), (status, b"", []))
+            self.assertFalse(os.path.exists(self.path("claims.txt")))
+            self.assertRaises(ProcessLookupError, os.kill, int(content(self.path("started"))), 0)
+            os.remove(self.path("started"))
 
 
 if __name__ == "__main__":
