@@ -1,14 +1,49 @@
-/* The claim tracker: fails and loaned securities of one book of 16 accounts and 16 securities.
+/* The claim tracker: fails and loaned securities of one book of 16 accounts and 16 securities, each numbered from 0 to 15.
 
-   Link with libtracker.a (rt staticlib tracker), x86-64 Linux. Every function takes any values whatever, returns, reads nothing beyond
-   the elements that it is given and writes nothing but what its comment names. A count that follows a pointer is that of its elements.
-   No pointer may be null (with a count of 0 it may point anywhere but null), and each is aligned for its type. What a function writes to
-   may not overlap anything else that it is given. The rules are those of the tracker's paper, document 01.
+   Link with -lclaim_tracker (x86-64 Linux). FORMATS.md among the documents says the same at more length.
 
-   Numbers: 0 accepted; 1 a wrong length, 2 the calendar, 3 the tables, 4 the book's day or a balance, 5 the record, 6 a field,
-   7 a decrease above the balance, 8 an increase past 9,000,000,000, 9 no open day after the next one, 10 no room for the claims,
-   11 the count is full; of the Contract Date tag: 132 more than one opener, 133 no end, 135 no date, 138 after the day, 139 class 1 and
-   not the day. The earliest in document 01's order is answered. */
+   Dates are the number yyyymmdd, 20000101 to 20391231. Par is in whole dollars, an amount in cents, a factor in billionths of a dollar
+   for each dollar of par. Words are the machine's own; numbers in records and in book.dat have their lowest byte first.
+
+   Calendar: 480 words, one a month from January 2000; the word of a month is 12 * (year - 2000) + month - 1. Bit d - 1 (the lowest is
+   bit 0) is on where day d is open. A bit for a day that the month lacks is refused with 2.
+
+   Tables: 1,824 words, 114 a security: type, frequency, then 16 rows of 7 words. A row is a payment: Record Date, Beneficiary Date,
+   Payment Date, interest factor, principal factor (each at most 2,000,000,000), final (1 where the payment redeems the security, else
+   0), restricted (bit a is on where account a's payment went to a non-interest-bearing account; 16 bits). Word 0 of row r of security s is
+   114 * s + 2 + 7 * r. Filled rows come first, and a row that is not filled is seven zeros; an unused security is 114 zeros. Record Dates
+   rise from row to row, and so do Beneficiary Dates. Neither is after its row's Payment Date, and that is not after the calendar's last
+   open day. Tables that break this are refused with 3. An agency MBS with the coupons of April and May 2023, half a cent on the dollar:
+       3, 1,  20230401, 20230401, 20230415, 5000000, 0, 0, 0,  20230501, 20230501, 20230515, 5000000, 0, 0, 0,  then zeros
+
+   A book: its day, the number of its accepted transfers, and 4,096 words of balances: word 256 * s + 16 * l + b is the par of security s
+   that account l has lent to account b, at most 9,000,000,000, and zero where l is b. Its day is open and an open day follows it. All of
+   it is the caller's, who may store it and go on later.
+
+   book.dat, 9,220 bytes: the calendar, the tables and the opening day, in this order, each word of 4 bytes.
+
+   Records: two bytes that count those behind them, two of the kind, then the fields, one behind the other:
+     kind 1, transfer, 141 bytes: 8B 00 01 00, sender, receiver, security, class, tracking code (1 byte each), par (4 bytes), two lines
+       of free text (64 bytes each)
+     kind 2, close, 4 bytes: 02 00 02 00
+     kind 3, claim, 35 bytes: 21 00 03 00, claim type, outcome, payer, payee, security, row (1 byte each), transfer number (4 bytes, 0 in
+       a lending claim), interest and principal in cents (8 bytes each), release date (4 bytes, 0 in a notice), slot (1 byte)
+     kind 4, answer, 6 bytes: 04 00 04 00, number (2 bytes)
+
+   The Contract Date of a transfer stands in one of its two lines, anywhere, wholly within the line: {98A:CNTR/20230315} for 15 March 2023.
+
+   Buffers of claims: a transfer gives at most 7 claims, a close at most 61,440; CLAIM_TRACKER_CLAIM_ROOM(n) is the size for n. A call
+   whose claims do not fit is refused with 10 and has changed nothing: call again with a larger buffer. claim_tracker_serve, and with it
+   the program claimrun, has 64 KiB for the claims of each record: a close with more than 1,872 is answered with 10, the day stays, and
+   claim_tracker_close with a larger buffer can work it.
+
+   Pointers: a count that follows a pointer is that of its elements. No pointer may be null (with a count of 0 it may point anywhere
+   else), each is aligned for its type, and what a function writes to may not overlap anything else that it is given. Within this, every
+   function takes any values whatever and returns, reads nothing beyond the elements that it is given, and writes nothing but what its
+   comment names.
+
+   Threads: the library has no state of its own. Calls may run at the same time where none of them writes what another is given;
+   calendar and tables are only read and can be shared. */
 #ifndef CLAIM_TRACKER_H
 #define CLAIM_TRACKER_H
 
@@ -16,25 +51,197 @@
 #include <stddef.h>
 #include <stdint.h>
 
+#define CLAIM_TRACKER_VERSION_MAJOR 1
+#define CLAIM_TRACKER_VERSION_MINOR 0
+#define CLAIM_TRACKER_VERSION_PATCH 0
+#define CLAIM_TRACKER_VERSION "1.0.0"
+
+/* Every function answers a number that a caller has to look at, and takes no null pointer; compilers that can, watch over both. */
+#if defined(__GNUC__)
+#define CLAIM_TRACKER_CALL __attribute__((warn_unused_result))
+#define CLAIM_TRACKER_NONNULL __attribute__((nonnull))
+#elif defined(__has_attribute)
+#if __has_attribute(warn_unused_result)
+#define CLAIM_TRACKER_CALL __attribute__((warn_unused_result))
+#endif
+#if __has_attribute(nonnull)
+#define CLAIM_TRACKER_NONNULL __attribute__((nonnull))
+#endif
+#endif
+#ifndef CLAIM_TRACKER_CALL
+#define CLAIM_TRACKER_CALL
+#endif
+#ifndef CLAIM_TRACKER_NONNULL
+#define CLAIM_TRACKER_NONNULL
+#endif
+
 #ifdef __cplusplus
 extern "C" {
 #endif
 
-/* Words of the calendar, the tables and the balances, and bytes of the records. */
+/* How many there are: accounts, securities, rows of a security, and words. */
 enum {
+    CLAIM_TRACKER_ACCOUNTS = 16,
+    CLAIM_TRACKER_SECURITIES = 16,
+    CLAIM_TRACKER_ROWS = 16,
+    CLAIM_TRACKER_ROW_WORDS = 7,
+    CLAIM_TRACKER_SECURITY_WORDS = 114,
     CLAIM_TRACKER_CALENDAR_WORDS = 480,
     CLAIM_TRACKER_TABLE_WORDS = 1824,
-    CLAIM_TRACKER_BALANCE_WORDS = 4096,
+    CLAIM_TRACKER_BALANCE_WORDS = 4096
+};
+
+/* Bytes of the records, of a line of free text and of book.dat, and the output that claim_tracker_serve needs for a record. */
+enum {
     CLAIM_TRACKER_TRANSFER_BYTES = 141,
     CLAIM_TRACKER_CLOSE_BYTES = 4,
     CLAIM_TRACKER_CLAIM_BYTES = 35,
     CLAIM_TRACKER_ANSWER_BYTES = 6,
     CLAIM_TRACKER_LINE_BYTES = 64,
+    CLAIM_TRACKER_BOOK_FILE_BYTES = 9220,
     CLAIM_TRACKER_RECORD_ROOM = 65542
 };
 
-/* A book's day, yyyymmdd, and the number of its accepted transfers. Its balances are the caller's 4,096 words: word 256s + 16l + b is
-   the par of security s that account l has lent to account b. */
+/* The most claims of one call, and the bytes for n claims. */
+enum {
+    CLAIM_TRACKER_MOST_TRANSFER_CLAIMS = 7,
+    CLAIM_TRACKER_MOST_CLOSE_CLAIMS = 61440
+};
+#define CLAIM_TRACKER_CLAIM_ROOM(n) ((size_t)CLAIM_TRACKER_CLAIM_BYTES * (size_t)(n))
+
+/* The number of a call. 0 is accepted. With any other the call is refused and leaves book, balances and buffers as they were. Where several
+   apply, the one that stands first here is answered. An opening meets 1 to 4 alone, a reader 5, a writer 10. */
+enum claim_tracker_number {
+    CLAIM_TRACKER_ACCEPTED = 0,
+    CLAIM_TRACKER_WRONG_LENGTH = 1,             /* calendar, tables or balances have another number of words */
+    CLAIM_TRACKER_BAD_CALENDAR = 2,             /* the calendar has a bit for a day that the month lacks */
+    CLAIM_TRACKER_BAD_TABLES = 3,               /* the tables break a rule */
+    CLAIM_TRACKER_BAD_BOOK = 4,                 /* the day is not open or no open day follows it; a balance is too large, or an account's
+                                                   with itself */
+    CLAIM_TRACKER_BAD_RECORD = 5,               /* the record is cut short, or its length or kind is not the call's */
+    CLAIM_TRACKER_BAD_FIELD = 6,                /* an account or a security above 15, an unused security, a class above 1, a code above 6, a
+                                                   par of 0 or above 100,000,000, or the sender is the receiver */
+    CLAIM_TRACKER_SEVERAL_TAGS = 132,           /* more than one {98A:CNTR/ in the two lines */
+    CLAIM_TRACKER_UNENDED_TAG = 133,            /* no } behind it in its line */
+    CLAIM_TRACKER_TAG_WITHOUT_DATE = 135,       /* not eight digits that are a date */
+    CLAIM_TRACKER_CONTRACT_DATE_AFTER_DAY = 138, /* the Contract Date is after the book's day */
+    CLAIM_TRACKER_CONTRACT_DATE_NOT_DAY = 139,  /* class 1, and the Contract Date is not the book's day */
+    CLAIM_TRACKER_COUNT_FULL = 11,              /* 4,294,967,295 transfers are accepted already */
+    CLAIM_TRACKER_ABOVE_BALANCE = 7,            /* a decrease above what is lent */
+    CLAIM_TRACKER_PAST_LIMIT = 8,               /* an increase past 9,000,000,000 */
+    CLAIM_TRACKER_LAST_DAY = 9,                 /* a close, and no open day follows the day that it would go to */
+    CLAIM_TRACKER_NO_ROOM = 10                  /* the claims, or the record written, do not fit the buffer */
+};
+
+/* The kind of a record. */
+enum claim_tracker_kind {
+    CLAIM_TRACKER_KIND_TRANSFER = 1,
+    CLAIM_TRACKER_KIND_CLOSE = 2,
+    CLAIM_TRACKER_KIND_CLAIM = 3,
+    CLAIM_TRACKER_KIND_ANSWER = 4
+};
+
+/* The class of a transfer. */
+enum claim_tracker_class {
+    CLAIM_TRACKER_CLASS_SECONDARY_MARKET = 0,
+    CLAIM_TRACKER_CLASS_OTHER = 1
+};
+
+/* The tracking code of a transfer. A transfer without one that has a Contract Date may give fail claims. SLST, CLSR and ADSL add par to
+   what the sender has lent the receiver; SLRV, CLSL and ADSR take par from what the receiver has lent the sender. */
+enum claim_tracker_code {
+    CLAIM_TRACKER_CODE_NONE = 0,
+    CLAIM_TRACKER_CODE_SLST = 1,                /* a loan's start */
+    CLAIM_TRACKER_CODE_SLRV = 2,                /* reversal of a start */
+    CLAIM_TRACKER_CODE_CLSL = 3,                /* a loan's return */
+    CLAIM_TRACKER_CODE_CLSR = 4,                /* reversal of a return */
+    CLAIM_TRACKER_CODE_ADSL = 5,                /* the balance alone, up */
+    CLAIM_TRACKER_CODE_ADSR = 6                 /* the balance alone, down */
+};
+
+/* The type of a claim. */
+enum claim_tracker_claim_type {
+    CLAIM_TRACKER_CLAIM_TYPE_FAIL = 1,
+    CLAIM_TRACKER_CLAIM_TYPE_LENDING = 3
+};
+
+/* What becomes of a claim: it settles, or it is a notice for the first reason that applies. A notice keeps its amounts and has release date
+   0 and slot 0. */
+enum claim_tracker_outcome {
+    CLAIM_TRACKER_OUTCOME_SETTLES = 0,
+    CLAIM_TRACKER_OUTCOME_ZERO = 1,             /* both amounts are zero */
+    CLAIM_TRACKER_OUTCOME_FINAL = 2,            /* a lending claim on a payment that redeems the security */
+    CLAIM_TRACKER_OUTCOME_RESTRICTED = 3        /* the payer's payment went to a non-interest-bearing account */
+};
+
+/* When on its release date a claim settles. */
+enum claim_tracker_slot {
+    CLAIM_TRACKER_SLOT_NONE = 0,                /* a notice */
+    CLAIM_TRACKER_SLOT_AT_0805 = 1,             /* 8:05, with the payment: Treasuries and MBS guaranteed by the United States */
+    CLAIM_TRACKER_SLOT_AT_0845 = 2,             /* 8:45: a fail whose Payment Date is not after the book's day */
+    CLAIM_TRACKER_SLOT_DURING_DAY = 3           /* with the payment, during the day: all others */
+};
+
+/* The type of a security, word 0 of its tables. */
+enum claim_tracker_security_type {
+    CLAIM_TRACKER_SECURITY_UNUSED = 0,
+    CLAIM_TRACKER_SECURITY_TREASURY = 1,
+    CLAIM_TRACKER_SECURITY_NON_TREASURY_DEBT = 2,
+    CLAIM_TRACKER_SECURITY_AGENCY_MBS = 3,
+    CLAIM_TRACKER_SECURITY_US_GUARANTEED_MBS = 4
+};
+
+/* How often a security pays, word 1 of its tables. */
+enum claim_tracker_frequency {
+    CLAIM_TRACKER_FREQUENCY_MONTHLY = 1,
+    CLAIM_TRACKER_FREQUENCY_QUARTERLY = 2,
+    CLAIM_TRACKER_FREQUENCY_SEMIANNUAL = 3,
+    CLAIM_TRACKER_FREQUENCY_ANNUAL = 4
+};
+
+/* A number in words. */
+static inline const char *claim_tracker_text(unsigned int number) {
+    switch (number) {
+    case CLAIM_TRACKER_ACCEPTED:
+        return "accepted";
+    case CLAIM_TRACKER_WRONG_LENGTH:
+        return "the calendar, the tables or the balances have a wrong length";
+    case CLAIM_TRACKER_BAD_CALENDAR:
+        return "the calendar has a bit for a day that the month lacks";
+    case CLAIM_TRACKER_BAD_TABLES:
+        return "the tables break a rule";
+    case CLAIM_TRACKER_BAD_BOOK:
+        return "the day is not open or no open day follows it, or a balance is wrong";
+    case CLAIM_TRACKER_BAD_RECORD:
+        return "the record is cut short, or its length or kind is wrong";
+    case CLAIM_TRACKER_BAD_FIELD:
+        return "account, security (or an unused one), class, code or par out of range, or sender and receiver the same";
+    case CLAIM_TRACKER_ABOVE_BALANCE:
+        return "the decrease is above the balance";
+    case CLAIM_TRACKER_PAST_LIMIT:
+        return "the increase goes past 9,000,000,000";
+    case CLAIM_TRACKER_LAST_DAY:
+        return "a close with no open day after the next";
+    case CLAIM_TRACKER_NO_ROOM:
+        return "the buffer is too short for the claims or the record";
+    case CLAIM_TRACKER_COUNT_FULL:
+        return "the transfer count is already 4,294,967,295";
+    case CLAIM_TRACKER_SEVERAL_TAGS:
+        return "more than one Contract Date tag opens";
+    case CLAIM_TRACKER_UNENDED_TAG:
+        return "a Contract Date tag without } in its line";
+    case CLAIM_TRACKER_TAG_WITHOUT_DATE:
+        return "the Contract Date tag holds no date";
+    case CLAIM_TRACKER_CONTRACT_DATE_AFTER_DAY:
+        return "the Contract Date is after the day";
+    case CLAIM_TRACKER_CONTRACT_DATE_NOT_DAY:
+        return "not a secondary market transfer, and the Contract Date is not the day";
+    default:
+        return "unknown number";
+    }
+}
+
+/* A book's day and the number of its accepted transfers; its balances are the caller's 4,096 words. */
 struct claim_tracker_book {
     uint32_t day;
     uint32_t count;
@@ -112,12 +319,14 @@ struct claim_tracker_answer_reading {
 };
 
 /* Opens a book on a day: number 0, this day, count 0, and all balances zero. Refused, with 1 to 4: day 20000101, count 0, and the
-   balances as they were. The claims are always 0. */
+   balances as they were. The claims are always 0. Of the balances only their number is judged. */
+CLAIM_TRACKER_CALL CLAIM_TRACKER_NONNULL
 struct claim_tracker_done claim_tracker_open(const uint32_t *calendar, size_t calendar_words, const uint32_t *tables, size_t table_words,
                                              uint64_t *balances, size_t balance_words, uint32_t day);
 
 /* Works the transfer at the message's start: posts its par, counts it and writes its fail claims from the claim buffer's start; the bytes
    behind them stay. Refused: the number, the book given, no claims, and balances and claim buffer as they were. */
+CLAIM_TRACKER_CALL CLAIM_TRACKER_NONNULL
 struct claim_tracker_done claim_tracker_transfer(const uint32_t *calendar, size_t calendar_words, const uint32_t *tables,
                                                  size_t table_words, struct claim_tracker_book book, uint64_t *balances,
                                                  size_t balance_words, const uint8_t *message, size_t message_bytes, uint8_t *claims,
@@ -126,12 +335,14 @@ struct claim_tracker_done claim_tracker_transfer(const uint32_t *calendar, size_
 /* Works the close at the message's start: moves the day to the next open day and writes the lending claims of the Record Dates crossed
    from the claim buffer's start; the bytes behind them stay. Refused: the number, the book given, no claims, and balances and claim
    buffer as they were. */
+CLAIM_TRACKER_CALL CLAIM_TRACKER_NONNULL
 struct claim_tracker_done claim_tracker_close(const uint32_t *calendar, size_t calendar_words, const uint32_t *tables, size_t table_words,
                                               struct claim_tracker_book book, uint64_t *balances, size_t balance_words,
                                               const uint8_t *message, size_t message_bytes, uint8_t *claims, size_t claim_bytes);
 
 /* Works a transfer as claim_tracker_transfer does, on the caller's own book: accepted, it counts there. Refused: the number, no claims,
    and book, balances and claim buffer as they were. On the same values both forms give and leave the same. */
+CLAIM_TRACKER_CALL CLAIM_TRACKER_NONNULL
 struct claim_tracker_reply claim_tracker_transfer_in(const uint32_t *calendar, size_t calendar_words, const uint32_t *tables,
                                                      size_t table_words, struct claim_tracker_book *book, uint64_t *balances,
                                                      size_t balance_words, const uint8_t *message, size_t message_bytes, uint8_t *claims,
@@ -139,6 +350,7 @@ struct claim_tracker_reply claim_tracker_transfer_in(const uint32_t *calendar, s
 
 /* Works a close as claim_tracker_close does, on the caller's own book: accepted, its day moves to the next open day. Refused: the number,
    no claims, and book, balances and claim buffer as they were. On the same values both forms give and leave the same. */
+CLAIM_TRACKER_CALL CLAIM_TRACKER_NONNULL
 struct claim_tracker_reply claim_tracker_close_in(const uint32_t *calendar, size_t calendar_words, const uint32_t *tables,
                                                   size_t table_words, struct claim_tracker_book *book, uint64_t *balances,
                                                   size_t balance_words, const uint8_t *message, size_t message_bytes, uint8_t *claims,
@@ -149,36 +361,45 @@ struct claim_tracker_reply claim_tracker_close_in(const uint32_t *calendar, size
    or after a 5, which is the answer to what is no record, and, with ended, to the beginning of one. The caller writes out what was
    written, hands over again the bytes that were not worked, with those that have arrived since, and ends once over is true. However the
    input is cut, all that is written is the same. Numbers 1 to 4: nothing is worked or written, and the book given is returned. */
+CLAIM_TRACKER_CALL CLAIM_TRACKER_NONNULL
 struct claim_tracker_served claim_tracker_serve(const uint32_t *calendar, size_t calendar_words, const uint32_t *tables, size_t table_words,
                                                 struct claim_tracker_book book, uint64_t *balances, size_t balance_words,
                                                 const uint8_t *input, size_t input_bytes, bool ended, uint8_t *output,
                                                 size_t output_bytes);
 
 /* Reads the record of a kind at the message's start; the bytes behind it are not looked at, and no field is judged. */
+CLAIM_TRACKER_CALL CLAIM_TRACKER_NONNULL
 struct claim_tracker_transfer_reading claim_tracker_read_transfer(const uint8_t *message, size_t message_bytes);
 
 /* 0 where the message begins with a close, else 5. */
+CLAIM_TRACKER_CALL CLAIM_TRACKER_NONNULL
 uint16_t claim_tracker_read_close(const uint8_t *message, size_t message_bytes);
 
 /* Reads a claim. */
+CLAIM_TRACKER_CALL CLAIM_TRACKER_NONNULL
 struct claim_tracker_claim_reading claim_tracker_read_claim(const uint8_t *message, size_t message_bytes);
 
 /* Reads an answer. */
+CLAIM_TRACKER_CALL CLAIM_TRACKER_NONNULL
 struct claim_tracker_answer_reading claim_tracker_read_answer(const uint8_t *message, size_t message_bytes);
 
 /* Writes a transfer with its two lines to the buffer's start and answers 0; the bytes behind it stay. For too short a buffer, which is
    not touched, 10. Each line is 64 bytes. */
+CLAIM_TRACKER_CALL CLAIM_TRACKER_NONNULL
 uint16_t claim_tracker_write_transfer(uint8_t *buffer, size_t buffer_bytes, struct claim_tracker_transfer_fields transfer,
                                       const uint8_t first_line[CLAIM_TRACKER_LINE_BYTES],
                                       const uint8_t second_line[CLAIM_TRACKER_LINE_BYTES]);
 
 /* Writes a close, likewise. */
+CLAIM_TRACKER_CALL CLAIM_TRACKER_NONNULL
 uint16_t claim_tracker_write_close(uint8_t *buffer, size_t buffer_bytes);
 
 /* Writes a claim, likewise. */
+CLAIM_TRACKER_CALL CLAIM_TRACKER_NONNULL
 uint16_t claim_tracker_write_claim(uint8_t *buffer, size_t buffer_bytes, struct claim_tracker_claim claim);
 
 /* Writes an answer, likewise. */
+CLAIM_TRACKER_CALL CLAIM_TRACKER_NONNULL
 uint16_t claim_tracker_write_answer(uint8_t *buffer, size_t buffer_bytes, struct claim_tracker_answer answer);
 
 #ifdef __cplusplus

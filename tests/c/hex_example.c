@@ -131,7 +131,7 @@ int main(void) {
     fields.code = 1;
     fields.par = 15000;
     memset(first, ' ', sizeof first);
-    claim_tracker_write_transfer(message, sizeof message, fields, first, second);
+    check("a loan is written", claim_tracker_write_transfer(message, sizeof message, fields, first, second) == 0);
     done = claim_tracker_open(calendar, 480, tables, 1824, balances, 4096, 20230331);
     done = claim_tracker_transfer(calendar, 480, tables, 1824, done.book, balances, 4096, message, sizeof message, out, 0);
     check("a loan's start", done.number == 0 && done.claims == 0 && done.book.count == 1 && balances[16 * 1 + 2] == 15000);

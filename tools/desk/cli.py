@@ -190,10 +190,22 @@ def board_make(args):
     files.write(args.output, [page.encode("utf-8")], made.paths)
 
 
+def version_show(args):
+    files.write(None, [("claimdesk %s\n" % running.version()).encode("utf-8")])
+
+
+class Alone(argparse.Action):
+    """An option that is worked only where it stands alone."""
+
+    def __call__(self, parser, *words):
+        parser.error("%s stands alone" % self.option_strings[0])
+
+
 def parser():
     """What the command line may say."""
     top = argparse.ArgumentParser(prog="claimdesk", description="Makes claimrun's inputs from text and shows its "
                                   "records. Bad input ends it with status 1, wrong usage with 2.")
+    top.add_argument("--version", action=Alone, nargs=0, help="show the version number")
     groups = top.add_subparsers(required=True, metavar="COMMAND")
 
     def command(group, name, work, words, output="write to this file instead of standard output"):
@@ -241,7 +253,8 @@ def parser():
 
 def main(argv=None):
     """Works the command line and gives the exit status."""
-    args = parser().parse_args(argv)
+    argv = sys.argv[1:] if argv is None else argv
+    args = argparse.Namespace(work=version_show) if argv == ["--version"] else parser().parse_args(argv)
     before = signal.signal(signal.SIGTERM, on_terminate)
     try:
         return status_of(args)

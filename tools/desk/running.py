@@ -6,14 +6,22 @@ import subprocess
 import sys
 import time
 
-from . import checking, layout, messages
+from . import checking, files, layout, messages
 from .errors import Fault
 
-ROOT = os.path.dirname(os.path.dirname(os.path.dirname(os.path.realpath(__file__))))
-PROGRAM = os.path.join(ROOT, "target", "bin", "claimrun")
+HOME = os.path.dirname(os.path.dirname(os.path.realpath(__file__)))
+ROOT = os.path.dirname(HOME)
+INSTALLED = os.path.join(HOME, "claimrun")
+PROGRAM = INSTALLED if os.path.exists(INSTALLED) else os.path.join(ROOT, "target", "bin", "claimrun")
 QUIET_SECONDS = 1.0
 STEP_SECONDS = 0.2
 STOPPING = (signal.SIGINT, signal.SIGTERM)
+
+
+def version():
+    """The version number: the file VERSION beside the desk where it is installed, else that of the repository."""
+    installed = os.path.join(HOME, "VERSION")
+    return files.read_text(installed if os.path.exists(installed) else os.path.join(ROOT, "VERSION")).strip()
 
 
 class Progress:

@@ -1,0 +1,229 @@
+/* Makes the calls that standard input lists, one a line, and prints what each answers and leaves. tests/python makes the same calls through
+   the Python module and compares. Bytes are hex, - for none; a buffer begins as bytes AA, and a line ends with checksums of it and of the
+   balances. */
+#define _POSIX_C_SOURCE 200809L
+#include <inttypes.h>
+#include <stdio.h>
+#include <stdlib.h>
+#include <string.h>
+
+#include "claim_tracker.h"
+
+static uint32_t calendar[2 * CLAIM_TRACKER_CALENDAR_WORDS];
+static uint32_t tables[2 * CLAIM_TRACKER_TABLE_WORDS];
+static uint64_t balances[2 * CLAIM_TRACKER_BALANCE_WORDS];
+static size_t calendar_words = CLAIM_TRACKER_CALENDAR_WORDS, table_words = CLAIM_TRACKER_TABLE_WORDS;
+static size_t balance_words = CLAIM_TRACKER_BALANCE_WORDS;
+static struct claim_tracker_book book;
+static uint8_t *buffer;
+static size_t room;
+
+static char *next(void) {
+    char *word = strtok(NULL, " \n");
+    if (word == NULL) exit(2);
+    return word;
+}
+
+static uint64_t number(void) { return strtoull(next(), NULL, 10); }
+
+/* The bytes of a word of hex, which the caller frees. */
+static uint8_t *bytes(size_t *count) {
+    const char *word = next();
+    *count = strcmp(word, "-") == 0 ? 0 : strlen(word) / 2;
+    uint8_t *made = malloc(*count + 1);
+    for (size_t i = 0; i < *count; i++) {
+        unsigned byte;
+        if (sscanf(word + 2 * i, "%2x", &byte) != 1) exit(2);
+        made[i] = (uint8_t)byte;
+    }
+    return made;
+}
+
+static void line(uint8_t *made) {
+    size_t count;
+    uint8_t *given = bytes(&count);
+    if (count != CLAIM_TRACKER_LINE_BYTES) exit(2);
+    memcpy(made, given, count);
+    free(given);
+}
+
+static void new_buffer(void) {
+    room = number();
+    buffer = malloc(room + 1);
+    memset(buffer, 0xaa, room);
+}
+
+static uint32_t checksum(const void *data, size_t count) {
+    uint32_t sum = UINT32_MAX;
+    for (size_t i = 0; i < count; i++) {
+        sum ^= ((const uint8_t *)data)[i];
+        for (int bit = 0; bit < 8; bit++) sum = sum >> 1 ^ (sum & 1 ? UINT32_C(0xedb88320) : 0);
+    }
+    return ~sum;
+}
+
+static void print_hex(const uint8_t *data, size_t count) {
+    printf(" ");
+    if (count == 0) printf("-");
+    for (size_t i = 0; i < count; i++) printf("%02x", data[i]);
+}
+
+/* What a call leaves: the book, the buffer's first bytes and the checksums. */
+static void print_left(size_t written) {
+    printf(" book %" PRIu32 " %" PRIu32, book.day, book.count);
+    print_hex(buffer, written);
+    printf(" %08" PRIx32 " %08" PRIx32 "\n", checksum(buffer, room), checksum(balances, sizeof balances));
+    free(buffer);
+}
+
+/* A transfer or a close, by value or on the own book. */
+static void call(const char *name) {
+    uint16_t answer;
+    size_t claims, count;
+    new_buffer();
+    uint8_t *message = bytes(&count);
+    if (strcmp(name, "transfer") == 0 || strcmp(name, "close") == 0) {
+        struct claim_tracker_done done = (*name == 't' ? claim_tracker_transfer : claim_tracker_close)(
+            calendar, calendar_words, tables, table_words, book, balances, balance_words, message, count, buffer, room);
+        answer = done.number;
+        claims = done.claims;
+        book = done.book;
+    } else if (strcmp(name, "transfer_in") == 0 || strcmp(name, "close_in") == 0) {
+        struct claim_tracker_reply reply = (*name == 't' ? claim_tracker_transfer_in : claim_tracker_close_in)(
+            calendar, calendar_words, tables, table_words, &book, balances, balance_words, message, count, buffer, room);
+        answer = reply.number;
+        claims = reply.claims;
+    } else {
+        exit(2);
+    }
+    free(message);
+    printf("%s %u claims %zu", name, answer, claims);
+    print_left(CLAIM_TRACKER_CLAIM_ROOM(claims));
+}
+
+static void serve(void) {
+    size_t count;
+    bool ended = number() != 0;
+    new_buffer();
+    uint8_t *input = bytes(&count);
+    struct claim_tracker_served served = claim_tracker_serve(
+        calendar, calendar_words, tables, table_words, book, balances, balance_words, input, count, ended, buffer, room);
+    free(input);
+    book = served.book;
+    printf("serve %u consumed %zu written %zu over %d", served.number, served.consumed, served.written, served.over);
+    print_left(served.written);
+}
+
+static void print_claim(struct claim_tracker_claim c) {
+    printf(" %u %u %u %u %u %u %" PRIu32 " %" PRIu64 " %" PRIu64 " %" PRIu32 " %u\n", c.claim_type, c.outcome, c.payer, c.payee,
+           c.security, c.row, c.transfer, c.interest, c.principal, c.release, c.slot);
+}
+
+static void read_record(const char *name) {
+    size_t count;
+    uint8_t *message = bytes(&count);
+    if (strcmp(name, "read_transfer") == 0) {
+        struct claim_tracker_transfer_reading found = claim_tracker_read_transfer(message, count);
+        printf("%s %u %u %u %u %u %u %" PRIu32, name, found.number, found.transfer.sender, found.transfer.receiver, found.transfer.security,
+               found.transfer.class_, found.transfer.code, found.transfer.par);
+        print_hex(found.first_line, CLAIM_TRACKER_LINE_BYTES);
+        print_hex(found.second_line, CLAIM_TRACKER_LINE_BYTES);
+        printf("\n");
+    } else if (strcmp(name, "read_close") == 0) {
+        printf("%s %u\n", name, claim_tracker_read_close(message, count));
+    } else if (strcmp(name, "read_claim") == 0) {
+        struct claim_tracker_claim_reading found = claim_tracker_read_claim(message, count);
+        printf("%s %u", name, found.number);
+        print_claim(found.claim);
+    } else if (strcmp(name, "read_answer") == 0) {
+        struct claim_tracker_answer_reading found = claim_tracker_read_answer(message, count);
+        printf("%s %u %u\n", name, found.number, found.answer.number);
+    }
+    free(message);
+}
+
+static void write_record(const char *name) {
+    uint16_t answer = UINT16_MAX;
+    new_buffer();
+    if (strcmp(name, "write_transfer") == 0) {
+        struct claim_tracker_transfer_fields t;
+        uint8_t lines[2][CLAIM_TRACKER_LINE_BYTES];
+        t.sender = (uint8_t)number();
+        t.receiver = (uint8_t)number();
+        t.security = (uint8_t)number();
+        t.class_ = (uint8_t)number();
+        t.code = (uint8_t)number();
+        t.par = (uint32_t)number();
+        line(lines[0]);
+        line(lines[1]);
+        answer = claim_tracker_write_transfer(buffer, room, t, lines[0], lines[1]);
+    } else if (strcmp(name, "write_close") == 0) {
+        answer = claim_tracker_write_close(buffer, room);
+    } else if (strcmp(name, "write_claim") == 0) {
+        struct claim_tracker_claim c;
+        c.claim_type = (uint8_t)number();
+        c.outcome = (uint8_t)number();
+        c.payer = (uint8_t)number();
+        c.payee = (uint8_t)number();
+        c.security = (uint8_t)number();
+        c.row = (uint8_t)number();
+        c.transfer = (uint32_t)number();
+        c.interest = number();
+        c.principal = number();
+        c.release = (uint32_t)number();
+        c.slot = (uint8_t)number();
+        answer = claim_tracker_write_claim(buffer, room, c);
+    } else if (strcmp(name, "write_answer") == 0) {
+        struct claim_tracker_answer a = {(uint16_t)number()};
+        answer = claim_tracker_write_answer(buffer, room, a);
+    }
+    printf("%s %u", name, answer);
+    print_hex(buffer, room);
+    printf("\n");
+    free(buffer);
+}
+
+/* Puts a word at its place. */
+static void put(const char *name) {
+    uint64_t place = number(), word = number();
+    if (strcmp(name, "calendar") == 0) calendar[place] = (uint32_t)word;
+    if (strcmp(name, "tables") == 0) tables[place] = (uint32_t)word;
+    if (strcmp(name, "balances") == 0) balances[place] = word;
+}
+
+static void work(const char *name) {
+    if (strcmp(name, "calendar") == 0 || strcmp(name, "tables") == 0 || strcmp(name, "balances") == 0) {
+        put(name);
+    } else if (strcmp(name, "lengths") == 0) {
+        calendar_words = number();
+        table_words = number();
+        balance_words = number();
+    } else if (strcmp(name, "book") == 0) {
+        book.day = (uint32_t)number();
+        book.count = (uint32_t)number();
+    } else if (strcmp(name, "open") == 0) {
+        uint32_t day = (uint32_t)number();
+        struct claim_tracker_done done = claim_tracker_open(calendar, calendar_words, tables, table_words, balances, balance_words, day);
+        book = done.book;
+        printf("open %u claims %zu book %" PRIu32 " %" PRIu32 " %08" PRIx32 "\n", done.number, done.claims, book.day, book.count,
+               checksum(balances, sizeof balances));
+    } else if (strcmp(name, "serve") == 0) {
+        serve();
+    } else if (strncmp(name, "read_", 5) == 0) {
+        read_record(name);
+    } else if (strncmp(name, "write_", 6) == 0) {
+        write_record(name);
+    } else if (strcmp(name, "text") == 0) {
+        printf("text %s\n", claim_tracker_text((unsigned)number()));
+    } else {
+        call(name);
+    }
+}
+
+int main(void) {
+    char *text = NULL;
+    size_t size = 0;
+    while (getline(&text, &size, stdin) > 0) work(strtok(text, " \n"));
+    free(text);
+    return 0;
+}

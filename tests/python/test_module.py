@@ -1,0 +1,398 @@
+"""The Python module over an installed library: against a C caller on the same calls, against the reference's streams, and its refusals."""
+import builtins
+import os
+import random
+import shutil
+import struct
+import subprocess
+import sys
+import tempfile
+import unittest
+from array import array
+
+HERE = os.path.dirname(os.path.abspath(__file__))
+sys.path[:0] = [os.path.join(os.path.dirname(HERE), "c"), os.path.join(os.path.dirname(HERE), "claimrun")]
+import building  # noqa: E402
+import common  # noqa: E402
+import declarations  # noqa: E402
+
+PREFIX = tempfile.mkdtemp()
+PYTHON = os.path.join(PREFIX, "lib", "claim_tracker", "python")
+unittest.addModuleCleanup(shutil.rmtree, PREFIX)
+INSTALLED = subprocess.run([os.path.join(building.ROOT, "tools", "install"), PREFIX], capture_output=True, text=True,
+                           env=os.environ | {"DESTDIR": ""})
+if INSTALLED.returncode != 0:
+    shutil.rmtree(PREFIX)
+    raise AssertionError(INSTALLED.stderr)
+os.environ.pop("CLAIM_TRACKER_LIBRARY", None)
+sys.path.insert(0, PYTHON)
+import calling  # noqa: E402
+import claim_tracker  # noqa: E402
+from claim_tracker import Book, Claim, Number, Transfer  # noqa: E402
+
+CALENDAR, TABLES, DAY = claim_tracker.read_book_file(common.BOOK)
+TAG = "{98A:CNTR/%d}"
+
+
+# ---- lists of calls
+
+def transfer_hex(sender, receiver, security, class_, code, par, first="", second=""):
+    """A transfer record, made without the module."""
+    lines = [line.ljust(64).encode("ascii")[:64] for line in (first, second)]
+    return struct.pack("<HHBBBBBI64s64s", 139, 1, sender, receiver, security, class_, code, par, *lines).hex()
+
+
+def book_lines():
+    """The lines that put the words of document 01's case book, with two more securities and a holding account that is restricted."""
+    tables = TABLES[:]
+    tables[114:114 + 9] = array("I", [1, 3, 20230331, 20230331, 20230403, 22500000, 0, 0, 1 << 5])
+    tables[228:228 + 16] = array("I", [4, 2, 20230401, 20230402, 20230403, 7, 1000000000, 0, 0,
+                                       20230404, 20230404, 20230405, 0, 1000000000, 1, 0])
+    lines = ["calendar %d %d" % pair for pair in enumerate(CALENDAR)]
+    return lines + ["tables %d %d" % pair for pair in enumerate(tables) if pair[1]]
+
+
+def random_calls(count, seed):
+    """A list of calls of every kind; most transfers are right but for one field."""
+    choice = random.Random(seed)
+
+    def mostly(usual, *others):
+        return choice.choice(others) if choice.random() < 0.1 else usual
+
+    lines = book_lines() + ["open 20230330"]
+    for _ in range(count):
+        form = choice.choice(("", "_in"))
+        room = mostly(9000, 0, 34, 35, 244, 245)
+        kind = choice.random()
+        if kind < 0.1:
+            lines.append("close%s %d 02000200" % (form, room))
+        elif kind < 0.15:
+            lines.append("%s%s %d %s" % (choice.choice(("transfer", "close")), form, room, choice.choice(("-", "8b00", "02000200", "04000400"))))
+        elif kind < 0.2:
+            data = "".join(choice.choice(("02000200", transfer_hex(1, 2, 0, 0, 0, 7, TAG % 20230315))) for _ in range(4))
+            lines.append("serve %d %d %s" % (choice.random() < 0.3, choice.choice((65541, 65542, 140000)), data + choice.choice(("", "8b", "0300"))))
+        else:
+            day = mostly(20230315, 20230401, 20230405, 20230231, 20391231)
+            tag = mostly(TAG % day, "", "text " + TAG % day, TAG % day + TAG % day, "{98A:CNTR/", "{98A:CNTR/}")
+            fields = (mostly(choice.randrange(1, 4), 0, 5, 16), mostly(choice.randrange(4, 6), 1, 255), mostly(choice.randrange(3), 3, 16),
+                      mostly(0, 1, 2), mostly(choice.choice((0, 0, 1)), 2, 3, 4, 5, 6, 7), mostly(200000, 0, 1, 100000000, 100000001))
+            lines.append("transfer%s %d %s" % (form, room, transfer_hex(*fields, tag, mostly("", "more text", TAG % day))))
+    return lines
+
+
+def edge_calls():
+    """Lengths, words and counts at their edges, and readers and writers at each size."""
+    lines = book_lines()
+    opened = transfer_hex(1, 2, 0, 0, 0, 200000, TAG % 20230315)
+    for lengths in ("479 1824 4096", "481 1824 4096", "480 0 4096", "480 1824 4095", "480 1824 0", "0 0 0", "480 1824 4096"):
+        lines += ["lengths " + lengths, "open 20230404", "transfer 245 " + opened, "serve 0 65542 " + opened]
+    lines += ["open 20230402", "open 0", "open 4294967295", "book 20230404 4294967294"]
+    lines += ["transfer 245 " + opened, "transfer_in 245 " + opened]
+    for word in (9000000000, 9000000001, 18446744073709551615, 0):
+        lines += ["open 20230404", "balances 18 %d" % word, "transfer 0 " + transfer_hex(1, 2, 0, 0, 1, 1), "close_in 65535 02000200"]
+    lines += ["calendar 1 4294967295", "open 20230404", "calendar 1 0", "tables 0 9", "open 20230404", "tables 0 3", "open 20391229"]
+    lines += ["close 0 02000200", "close 0 02000200", "calendar 479 0", "close_in 0 02000200"]
+    answer, claim = common.EXPECTED[35:].hex(), common.EXPECTED[:35].hex()
+    for record in (opened, "02000200", claim, answer, "ff" * 141):
+        for size in {len(record), len(record) - 2, len(record) + 8, 8, 0}:
+            data = (record + "ab" * 4)[:size] or "-"
+            lines += ["read_%s %s" % (name, data) for name in ("transfer", "close", "claim", "answer")]
+    most = "255 255 255 255 255 255 4294967295 18446744073709551615 18446744073709551615 4294967295 255"
+    for room in (0, 3, 4, 5, 6, 34, 35, 36, 140, 141, 142):
+        lines += ["write_close %d" % room, "write_answer %d 65535" % room, "write_claim %d %s" % (room, most),
+                  "write_claim %d 1 0 1 2 0 0 1 100000 0 20230417 3" % room,
+                  "write_transfer %d 1 2 0 0 0 200000 %s %s" % (room, "7b" * 64, "20" * 63 + "7d"),
+                  "write_transfer %d 255 254 253 252 251 4294967295 %s %s" % (room, bytes(range(64)).hex(), bytes(range(64, 128)).hex())]
+    return lines + ["text %d" % number for number in range(200)] + ["text 65535"]
+
+
+class AgainstC(building.Library):
+    """The same list of calls through the C caller and through the module."""
+    maxDiff = 2000
+
+    def same(self, lines):
+        """Both print the same; what they print is given back."""
+        program = self.build("tests/c/calls.c", "-std=c11", "-O1")
+        run = subprocess.run([program], input="\n".join(lines) + "\n", capture_output=True, text=True, timeout=building.SECONDS)
+        self.assertEqual((run.returncode, run.stderr), (0, ""))
+        by_c, by_python = run.stdout.splitlines(), calling.answers(lines).splitlines()
+        for made, found in zip(by_c, by_python):
+            self.assertEqual(found, made)
+        self.assertEqual(len(by_python), len(by_c))
+        return by_c
+
+    def test_random_calls(self):
+        """Claims of both types and most numbers occur among them."""
+        found = self.same(random_calls(800, 7))
+        numbers = {int(line.split()[1]) for line in found}
+        self.assertGreaterEqual(numbers, {0, 5, 6, 7, 10, 132, 133, 135, 138, 139})
+        for name, least in (("transfer", 200), ("close", 5)):
+            self.assertGreater(sum(int(line.split()[3]) for line in found if line.startswith(name)), least)
+        self.assertTrue(any(" over 1 " in line for line in found) and any(" written 0 " in line for line in found))
+
+    def test_edges(self):
+        found = self.same(edge_calls())
+        self.assertGreaterEqual({int(line.split()[1]) for line in found if not line.startswith("text")}, {0, 1, 2, 3, 4, 5, 8, 9, 10, 11})
+        self.assertEqual(found.count("text unknown number"), 201 - len(Number))
+
+
+class Calls(unittest.TestCase):
+    def test_hex_example(self):
+        """Document 01's example, by both forms and by a stream."""
+        balances = claim_tracker.new_balances()
+        done = claim_tracker.open(CALENDAR, TABLES, balances, DAY)
+        self.assertEqual(done, (Number.ACCEPTED, Book(20230404, 0), 0))
+        message = bytearray(claim_tracker.TRANSFER_BYTES)
+        lines = claim_tracker.line(TAG % 20230315), claim_tracker.line("")
+        self.assertEqual(claim_tracker.write_transfer(message, Transfer(1, 2, 0, 0, 0, 200000), *lines), 0)
+        self.assertEqual(bytes(message), common.TRANSFER)
+        output = bytearray(41)
+        before = done.book
+        done = claim_tracker.transfer(CALENDAR, TABLES, before, balances, message, output)
+        self.assertEqual((done, before), ((Number.ACCEPTED, Book(20230404, 1), 1), Book(20230404, 0)))
+        self.assertEqual(claim_tracker.write_answer(memoryview(output)[35:], claim_tracker.Answer(done.number)), 0)
+        self.assertEqual(bytes(output), common.EXPECTED)
+        self.assertEqual(claim_tracker.read_claim(output), (0, Claim(1, 0, 1, 2, 0, 0, 1, 100000, 0, 20230417, 3)))
+        self.assertEqual(claim_tracker.read_transfer(message), (0, Transfer(1, 2, 0, 0, 0, 200000), *lines))
+        own, output = Book(20230404), bytearray(41)
+        self.assertEqual(claim_tracker.transfer_in(CALENDAR, TABLES, own, balances, bytes(message), output), (0, 1))
+        self.assertEqual((own, output[:35]), (Book(20230404, 1), common.EXPECTED[:35]))
+        output = bytearray(claim_tracker.RECORD_ROOM)
+        served = claim_tracker.serve(CALENDAR, TABLES, Book(20230404), balances, message, False, output)
+        self.assertEqual((served.number, served.book, served.consumed, served.written, served.over), (0, Book(20230404, 1), 141, 41, False))
+        self.assertEqual(bytes(output[:41]), common.EXPECTED)
+
+    def test_streams(self):
+        """The streams of crates/vectors, by the rule of FORMATS.md."""
+        for number, stream in enumerate(common.vectors()):
+            with self.subTest(stream=number):
+                self.assertTrue(self.served(stream) == stream.expected)
+
+    def served(self, stream):
+        """All that is written for a stream whose input arrives in pieces of 1,000 bytes."""
+        if len(stream.book) != claim_tracker.BOOK_FILE_BYTES:
+            return common.answer(1)
+        calendar, tables, day = claim_tracker.read_book_file(stream.book)
+        balances = claim_tracker.new_balances()
+        done = claim_tracker.open(calendar, tables, balances, day)
+        if done.number:
+            return common.answer(done.number)
+        book, held, at, ended, found = done.book, b"", 0, False, b""
+        output = bytearray(claim_tracker.RECORD_ROOM)
+        while True:
+            served = claim_tracker.serve(calendar, tables, book, balances, held, ended, output)
+            self.assertEqual(served.number, 0)
+            book, held, found = served.book, held[served.consumed:], found + output[:served.written]
+            if served.over:
+                return found
+            if served.consumed or served.written:
+                continue
+            if ended:
+                return found
+            held, at, ended = held + stream.data[at:at + 1000], at + 1000, at >= len(stream.data)
+
+
+class Largest(unittest.TestCase):
+    """The sizes of claim buffers that FORMATS.md names: each is reached, and a byte less is too short."""
+    DAYS = 20230102, 20230301, 20230302, 20230303
+
+    def setUp(self):
+        """A calendar with four open days, and 16 rows between the first two in each security."""
+        self.calendar = array("I", bytes(4 * 480))
+        for day in self.DAYS:
+            self.calendar[12 * (day // 10000 - 2000) + day // 100 % 100 - 1] |= 1 << day % 100 - 1
+        rows = [word for at in range(16) for word in (20230103 + at, 20230103 + at, 20230301, 1000000000, 0, 0, 0)]
+        self.tables = array("I", [claim_tracker.SecurityType.AGENCY_MBS, claim_tracker.Frequency.MONTHLY, *rows] * 16)
+        self.balances = claim_tracker.new_balances()
+        self.book = claim_tracker.open(self.calendar, self.tables, self.balances, self.DAYS[0]).book
+        self.assertEqual(self.book, Book(self.DAYS[0]))
+
+    def lend(self, count):
+        """Loans in security 0, as many."""
+        places = [16 * lender + borrower for lender in range(16) for borrower in range(16) if lender != borrower]
+        for place in places[:count]:
+            self.balances[place] = 1
+
+    def close(self, room):
+        return claim_tracker.close(self.calendar, self.tables, self.book, self.balances, b"\2\0\2\0", bytearray(room))
+
+    def test_close(self):
+        for security in range(16):
+            for lender in range(16):
+                for borrower in range(16):
+                    self.balances[256 * security + 16 * lender + borrower] = lender != borrower
+        room = claim_tracker.claim_room(claim_tracker.MOST_CLOSE_CLAIMS)
+        self.assertEqual(room, 2150400)
+        self.assertEqual(self.close(room - 1), (Number.NO_ROOM, self.book, 0))
+        self.assertEqual(self.close(room), (0, Book(self.DAYS[1]), claim_tracker.MOST_CLOSE_CLAIMS))
+
+    def test_transfer(self):
+        book = Book(self.DAYS[1])
+        for room, answer in ((244, (Number.NO_ROOM, book, 0)), (245, (0, Book(book.day, 1), 7))):
+            message = bytes.fromhex(transfer_hex(1, 2, 0, 0, 0, 5, TAG % 20000101))
+            self.assertEqual(claim_tracker.transfer(self.calendar, self.tables, book, self.balances, message, bytearray(room)), answer)
+
+    def test_stream(self):
+        """1,872 claims of a close fit a stream. A close with more gets 10 and the day stays; one call by value works it, and the stream goes
+        on."""
+        self.lend(117)
+        output, close = bytearray(claim_tracker.RECORD_ROOM), b"\2\0\2\0"
+        served = claim_tracker.serve(self.calendar, self.tables, self.book, self.balances, close, False, output)
+        self.assertEqual((served.book, served.consumed, served.written), (Book(self.DAYS[1]), 4, 1872 * 35 + 6))
+        self.lend(118)
+        served = claim_tracker.serve(self.calendar, self.tables, self.book, self.balances, close, False, output)
+        self.assertEqual((served.book, served.consumed, bytes(output[:served.written])), (self.book, 4, common.answer(10)))
+        done = self.close(claim_tracker.claim_room(118 * 16))
+        self.assertEqual(done, (0, Book(self.DAYS[1]), 118 * 16))
+        served = claim_tracker.serve(self.calendar, self.tables, done.book, self.balances, close, True, output)
+        self.assertEqual((served.book, bytes(output[:served.written])), (Book(self.DAYS[2]), common.answer(0)))
+
+
+class Names(unittest.TestCase):
+    """The module's names and numbers are the header's."""
+
+    def test_enumerations(self):
+        enums = declarations.enumerators()
+        self.assertEqual({"CLAIM_TRACKER_" + name: getattr(claim_tracker, name) for name in dir(claim_tracker)
+                          if name.isupper() and not name.startswith("_")}, enums.pop(""))
+        for name, prefix in (("number", ""), ("kind", "KIND_"), ("class", "CLASS_"), ("code", "CODE_"), ("claim_type", "CLAIM_TYPE_"),
+                             ("outcome", "OUTCOME_"), ("slot", "SLOT_"), ("security_type", "SECURITY_"), ("frequency", "FREQUENCY_")):
+            enum = getattr(claim_tracker, name.title().replace("_", ""))
+            self.assertEqual({"CLAIM_TRACKER_" + prefix + value.name: value for value in enum}, enums.pop("claim_tracker_" + name))
+        self.assertEqual(enums, {})
+
+    def test_functions(self):
+        """Each function has its call, with the header's arguments without counts."""
+        for name, (_, arguments) in declarations.header_functions().items():
+            call = getattr(claim_tracker, name.removeprefix("claim_tracker_"))
+            self.assertEqual(list(call.__code__.co_varnames[:call.__code__.co_argcount]), [word for word, _ in arguments if word])
+
+    def test_structs(self):
+        """The C structs of the module have the header's fields, names and sizes."""
+        kinds = {"uint8_t": "c_ubyte", "uint16_t": "c_ushort", "uint32_t": "c_uint", "uint64_t": "c_ulong", "size_t": "c_ulong",
+                 "bool": "c_bool", "uint8_t[64]": "c_ubyte_Array_64"}
+        own = {"struct " + c: form for form, c in declarations.STRUCTS.items()}
+        for form, name in declarations.STRUCTS.items():
+            fields = getattr(claim_tracker, "_" + "".join("_" + letter if letter.isupper() and at else letter.upper()
+                                                          for at, letter in enumerate(form)))._fields_
+            self.assertEqual([(field, kind.__name__) for field, kind in fields],
+                             [(field, kinds.get(kind) or own[kind]) for field, kind in declarations.header_structs()[name]])
+
+
+class Refusals(unittest.TestCase):
+    """Bad arguments raise plain errors, and nothing is called."""
+
+    def setUp(self):
+        self.balances = array("Q", [7]) * claim_tracker.BALANCE_WORDS
+        self.buffer = bytearray(b"\xaa" * 300)
+        self.book = Book(DAY)
+
+    def good(self, **changed):
+        """The arguments of a transfer, some of them changed."""
+        return {"calendar": CALENDAR, "tables": TABLES, "book": self.book, "balances": self.balances, "message": common.TRANSFER,
+                "claims": self.buffer} | changed
+
+    def refused(self, error, words, call, *arguments, **named):
+        with self.assertRaises(error) as raised:
+            call(*arguments, **named)
+        self.assertRegex(str(raised.exception), words)
+        self.assertEqual((bytes(self.buffer), set(self.balances), self.book), (b"\xaa" * 300, {7}, Book(DAY)))
+
+    def test_kinds(self):
+        wrong = array("H", bytes(960)), array("i", bytes(1920)), bytes(1920), list(CALENDAR), None, "text", memoryview(CALENDAR)[::2]
+        for call in (claim_tracker.transfer, claim_tracker.close, claim_tracker.transfer_in, claim_tracker.close_in):
+            for given in wrong:
+                for name in ("calendar", "tables", "balances"):
+                    self.refused(TypeError, r"\A%s: .*; allowed: " % name, call, **self.good(**{name: given}))
+            self.refused(TypeError, r"\Abalances: .*64-bit", call, **self.good(balances=CALENDAR))
+            for given in (None, "text", [1, 2], array("I", [1]), 5):
+                for name in ("message", "claims"):
+                    self.refused(TypeError, r"\A%s: .*; allowed: bytes" % name, call, **self.good(**{name: given}))
+            self.refused(TypeError, r"\Aclaims: cannot be written to", call, **self.good(claims=bytes(245)))
+            self.refused(TypeError, r"\Abalances: cannot be written to", call,
+                         **self.good(balances=memoryview(bytes(8 * 4096)).cast("Q")))
+            for given in ((DAY, 0), None, DAY):
+                self.refused(TypeError, r"\Abook: of type \w+; allowed: Book", call, **self.good(book=given))
+            self.refused(TypeError, r"\Abook.day: of type float", call, **self.good(book=Book(2.0)))
+
+    def test_overlaps(self):
+        call = claim_tracker.transfer
+        self.refused(ValueError, r"\Aclaims and message overlap\Z", call, **self.good(message=memoryview(self.buffer)[200:]))
+        both = memoryview(self.balances).cast("B")
+        self.refused(ValueError, r"\Abalances and claims overlap\Z", call, **self.good(claims=both[32760:]))
+        self.refused(ValueError, r"\Abalances and calendar overlap\Z", call, **self.good(calendar=both[:1920].cast("I")))
+        self.refused(ValueError, r"\Abuffer and second_line overlap\Z", claim_tracker.write_transfer, self.buffer,
+                     Transfer(1, 2, 0, 0, 0, 1), bytes(64), memoryview(self.buffer)[236:])
+        self.refused(ValueError, r"\Abalances: does not begin at a multiple of 8 bytes\Z", call,
+                     **self.good(balances=memoryview(bytearray(8 * 4097))[4:-4].cast("Q")))
+        line = memoryview(bytearray(b"{98A:CNTR/20230315}".ljust(64)))
+        self.assertEqual(claim_tracker.write_transfer(bytearray(141), Transfer(1, 2, 0, 0, 0, 1), line, line), 0)
+
+    def test_ranges(self):
+        for day in (-1, 2 ** 32):
+            self.refused(ValueError, r"\Aday: -?\d+; allowed: 0 to 4294967295\Z", claim_tracker.open, CALENDAR, TABLES, self.balances, day)
+            self.refused(ValueError, r"\Abook.count: ", claim_tracker.transfer_in, **self.good(book=Book(DAY, day)))
+        self.refused(TypeError, r"\Aday: of type str; allowed: a whole number\Z", claim_tracker.open, CALENDAR, TABLES, self.balances, "1")
+        fields = Transfer(1, 2, 0, 0, 0, 1)
+        for name, value in (("sender", 256), ("receiver", -1), ("security", 256), ("class_", 256), ("code", 256), ("par", 2 ** 32)):
+            self.refused(ValueError, r"\Atransfer.%s: " % name, claim_tracker.write_transfer, self.buffer,
+                         fields._replace(**{name: value}), bytes(64), bytes(64))
+        claim = Claim(*[0] * 11)
+        for name, value in (("slot", 256), ("transfer", 2 ** 32), ("interest", 2 ** 64), ("principal", -1), ("release", 2 ** 32)):
+            self.refused(ValueError, r"\Aclaim.%s: " % name, claim_tracker.write_claim, self.buffer, claim._replace(**{name: value}))
+        self.refused(ValueError, r"\Aanswer.number: 65536; ", claim_tracker.write_answer, self.buffer, claim_tracker.Answer(65536))
+        self.refused(TypeError, r"\Aanswer: of type int; allowed: Answer", claim_tracker.write_answer, self.buffer, 5)
+        for size in (0, 63, 65):
+            self.refused(ValueError, r"\Asecond_line: %d bytes; allowed: 64\Z" % size, claim_tracker.write_transfer, self.buffer, fields,
+                         bytes(64), bytes(size))
+        self.refused(TypeError, r"\Aended: of type int; allowed: True or False\Z", claim_tracker.serve, CALENDAR, TABLES, self.book,
+                     self.balances, b"", 1, self.buffer)
+
+    def test_values_of_a_caller(self):
+        self.assertEqual(claim_tracker.line("a"), b"a" + b" " * 63)
+        self.assertEqual(claim_tracker.claim_room(3), 105)
+        for call, given in ((claim_tracker.line, "x" * 65), (claim_tracker.line, "\u00e9"), (claim_tracker.line, b"x"),
+                            (claim_tracker.claim_room, -1), (claim_tracker.read_book_file, bytes(9219))):
+            self.assertRaises(ValueError, call, given)
+        self.assertEqual((len(CALENDAR), len(TABLES), DAY), (480, 1824, 20230404))
+        with builtins.open(os.path.join(building.ROOT, "crates/claimrun/data/book.dat"), "rb") as file:
+            self.assertEqual(b"".join((CALENDAR.tobytes(), TABLES.tobytes(), DAY.to_bytes(4, "little"))), file.read())
+
+
+class Library(building.Library):
+    """How the module finds the library, and that the example of FORMATS.md works."""
+
+    def test_example(self):
+        text = building.content("docs", "FORMATS.md")
+        source = "".join(line[4:] for line in text[text.index("    import claim_tracker\n"):].splitlines(keepends=True)
+                         if line.startswith("    "))
+        self.file("book.dat", common.BOOK)
+        run = subprocess.run([sys.executable, "-B", "-c", source], capture_output=True, text=True, timeout=building.SECONDS, cwd=self.folder,
+                             env=os.environ | {"PYTHONPATH": PYTHON})
+        self.assertEqual((run.returncode, run.stderr), (0, ""))
+        self.assertEqual(run.stdout, "accepted %s\n" % (Claim(1, 0, 1, 2, 0, 0, 1, 100000, 0, 20230417, 3),))
+
+    def imports(self, module, **environment):
+        """Imports a copy of the module in a process of its own."""
+        environment = {name: value for name, value in os.environ.items() if name != "CLAIM_TRACKER_LIBRARY"} | environment
+        return subprocess.run([sys.executable, "-B", "-c", "import claim_tracker; print(claim_tracker.read_close(b'\\2\\0\\2\\0'))"],
+                              capture_output=True, text=True, timeout=building.SECONDS, env=environment | {"PYTHONPATH": module})
+
+    def test_beside_the_module(self):
+        run = self.imports(PYTHON)
+        self.assertEqual((run.returncode, run.stdout, run.stderr), (0, "0\n", ""))
+
+    def test_by_the_environment(self):
+        module = os.path.join(building.ROOT, "python")
+        library = os.path.join(PREFIX, "lib", "libclaim_tracker.so")
+        self.assertEqual(self.imports(module, CLAIM_TRACKER_LIBRARY=library).stdout, "0\n")
+        run = self.imports(module)
+        self.assertIn("ImportError: there is no library %s" % os.path.join(module, "libclaim_tracker.so.1"), run.stderr)
+        run = self.imports(PYTHON, CLAIM_TRACKER_LIBRARY=self.path("missing.so"))
+        self.assertIn("ImportError: there is no library %s" % self.path("missing.so"), run.stderr)
+        run = self.imports(PYTHON, CLAIM_TRACKER_LIBRARY=self.file("bad.so", b"text"))
+        self.assertIn("ImportError: %s is not the claim tracker's library: " % self.path("bad.so"), run.stderr)
+
+
+if __name__ == "__main__":
+    unittest.main()
