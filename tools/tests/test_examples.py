@@ -30,13 +30,13 @@ class Examples(common.Desk):
     def claims(self, name):
         """The claims of an example by the free text of the message that they belong to."""
         records = json.loads(self.good("run", os.path.join(EXAMPLES, name), "--format", "json"))
-        calls = {record["message"]: record["call"] for record in records if record["record"] == "answer"}
+        calls = {record["message"]: record for record in records if record["record"] == "answer"}
         return calls, [record for record in records if record["record"] != "answer"]
 
     def test_attachment_2_fails(self):
         """Payer, payee, Beneficiary Date and release date of examples 1 to 7 are the memo's, with the year 2023."""
         calls, found = self.claims("attachment-2-fails.toml")
-        self.assertEqual([(calls[claim["message"]][-1], claim["payer_name"], claim["payee_name"], claim["beneficiary_date"],
+        self.assertEqual([(calls[claim["message"]]["text2"][-1], claim["payer_name"], claim["payee_name"], claim["beneficiary_date"],
                            claim["release_date"]) for claim in found], [
             ("2", "Bank Y/General", "Bank Z/Trust", "2023-04-01", "2023-04-17"),
             ("3", "Bank X/Dealer", "Bank Z/Dealer", "2023-04-01", "2023-04-21"),
@@ -64,8 +64,8 @@ class Examples(common.Desk):
 
     def test_busy_day_has_everything(self):
         calls, found = self.claims("busy-day.toml")
-        words = " ".join(calls.values())
-        for code in ("transfer", "SLST", "SLRV", "CLSL", "CLSR", "ADSL", "ADSR", "close", "other market"):
+        words = {call.get(key) for call in calls.values() for key in ("call", "code", "market")}
+        for code in ("transfer", "SLST", "SLRV", "CLSL", "CLSR", "ADSL", "ADSR", "close", "other"):
             self.assertIn(code, words)
         self.assertEqual({(claim["type"], claim["outcome"]) for claim in found},
                          {("fail", 0), ("fail", 3), ("lending", 0), ("lending", 1), ("lending", 2), ("lending", 3)})
@@ -79,7 +79,7 @@ class Examples(common.Desk):
         return "".join(line[4:] + "\n" for line in lines[:size]).rstrip("\n") + "\n"
 
     def test_readme_shows_the_first_commands_output(self):
-        self.assertEqual(self.readme_block("message  "), content(os.path.join(STORED, "workshop.txt")).decode("utf-8"))
+        self.assertEqual(self.readme_block("msg  "), content(os.path.join(STORED, "workshop.txt")).decode("utf-8"))
 
     def test_readme_source_gives_the_claim_it_says(self):
         source = self.file("mine.toml", self.readme_block("opening_day"))
