@@ -328,6 +328,14 @@ class Refusals(unittest.TestCase):
         line = memoryview(bytearray(b"{98A:CNTR/20230315}".ljust(64)))
         self.assertEqual(claim_tracker.write_transfer(bytearray(141), Transfer(1, 2, 0, 0, 0, 1), line, line), 0)
 
+    def test_empty(self):
+        """Memory of no items is lent too, and no address is null."""
+        for given, kind in ((array("I"), claim_tracker._U32), (array("Q"), claim_tracker._U64), (bytearray(), claim_tracker._U8),
+                            (b"", claim_tracker._U8), (memoryview(array("I")), claim_tracker._U32)):
+            lent = claim_tracker._Lent("given", given, kind)
+            self.assertEqual((lent.count, lent.address != 0), (0, True))
+        self.assertEqual(claim_tracker.open(array("I"), array("I"), array("Q"), DAY), (Number.WRONG_LENGTH, Book(20000101), 0))
+
     def test_ranges(self):
         for day in (-1, 2 ** 32):
             self.refused(ValueError, r"\Aday: -?\d+; allowed: 0 to 4294967295\Z", claim_tracker.open, CALENDAR, TABLES, self.balances, day)
