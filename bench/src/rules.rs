@@ -50,4 +50,5 @@ pub struct Served {
     pub consumed: usize,
     pub written: usize,
     pub over: bool,
+    pub full: bool,
 }

@@ -28,7 +28,7 @@ ANSWER_KIND = 4
 INPUT_BUFFER = 65536
 OUTPUT_BUFFER = 262144
 RECORD_ROOM = 65542                                  # the output that must be free for a record
-SECONDS = 60
+SECONDS = 30
 
 
 def content(*names):
@@ -62,9 +62,8 @@ def parts(data):
 class Stream:
     """A book, an input, all that is to be written for it by the reference, and where the input is cut."""
 
-    def __init__(self, book, data, expected, cuts=b""):
-        self.book, self.data, self.expected = book, data, expected
-        self.cuts = list(struct.unpack("<%dI" % (len(cuts) // 4), cuts))
+    def __init__(self, book, data, expected, cuts=()):
+        self.book, self.data, self.expected, self.cuts = book, data, expected, list(cuts)
         self.starts = record_starts(data)
         self.ends = answer_ends(expected)
 
@@ -80,7 +79,8 @@ class Stream:
 
     def until(self, records):
         """The same stream with this many records."""
-        return Stream(self.book, self.data[:self.starts[records]], self.expected[:self.ends[records]])
+        end = self.starts[records]
+        return Stream(self.book, self.data[:end], self.expected[:self.ends[records]], (cut for cut in self.cuts if cut < end))
 
 
 def record_starts(data):
@@ -106,7 +106,8 @@ def answer_ends(expected):
 
 def stored(name):
     """A stream of data/."""
-    return Stream(*parts(gzip.decompress(content(HERE, "data", name + ".stream.gz"))))
+    *rest, cuts = parts(gzip.decompress(content(HERE, "data", name + ".stream.gz")))
+    return Stream(*rest, (cut for cut, in struct.iter_unpack("<I", cuts)))
 
 
 def vectors():

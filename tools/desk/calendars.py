@@ -1,5 +1,5 @@
 """The calendar: 480 words, one a month, from weekdays, limits and listed days, and back."""
-from . import dates, layout
+from . import dates, holidays, layout
 from .sources import sample
 
 ALL_WEEKDAYS = {name: place for place, name in enumerate(dates.WEEKDAYS)}
@@ -53,13 +53,25 @@ def make(fields, found):
     first, last = found.take(fields.date, "first", dates.FIRST), found.take(fields.date, "last", dates.LAST)
     if first and last and last < first:
         found.add(fields.fault("last", "%s is before first, %s" % (last, first), "a date on or after first"))
-    closed = fields.date_set("holidays", found) | fields.date_set("closed", found)
+    named = make_named(fields, found)
+    closed = (set() if named else fields.date_set("holidays", found)) | fields.date_set("closed", found)
     extra = fields.date_set("open", found)
     for day in sorted(closed & extra):
         found.add(fields.fault("open", "%s is listed as open and as closed" % day, "a day in one of the lists"))
     if found.count > before:
         return None
-    return of_days((set(by_rule(weekdays, first, last)) - closed) | extra)
+    return of_days((set(by_rule(weekdays, first, last)) - closed - named) | extra)
+
+
+def make_named(fields, found):
+    """The days of the holidays that are given by a name."""
+    name = fields.values.get("holidays")
+    if not isinstance(name, str):
+        return set()
+    if name.strip() == holidays.NAME:
+        return holidays.all_of_them()
+    found.add(fields.fault("holidays", "%s is no list of days" % sample(name), 'dates in a list, or "%s"' % holidays.NAME))
+    return holidays.all_of_them()
 
 
 def make_weekdays(fields, found):

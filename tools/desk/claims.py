@@ -10,6 +10,7 @@ TIMES = {1: "8:05", 2: "8:45", 3: "during the day"}
 CODE_NAMES = {number: "transfer" if name == "none" else name for name, number in layout.CODES.items()}
 BOOK_ANSWERS = (1, 2, 3, 4)
 LAST_ANSWER = 5
+PIECE = 1 << 18
 MEANINGS = {
     0: "accepted",
     1: "book.dat is missing or its size is wrong",
@@ -45,22 +46,33 @@ def records(file, name):
 def placed(file, name):
     """The same with the place of each record's first byte."""
     place = 0
-    while data := file.read(layout.HEADER.size):
-        header = layout.HEADER.unpack(data) if len(data) == layout.HEADER.size else None
-        if header is not None and header not in FORMS:
-            raise Fault("%s: byte %d" % (name, place), "no claim or answer begins here (bytes %s)" % data.hex(" "),
-                        "claimrun's output: claims (21 00 03 00) and answers (04 00 04 00)")
-        form, kind = FORMS.get(header, (None, None))
-        if form is not None:
-            data += file.read(form.size - layout.HEADER.size)
-        if form is None or len(data) < form.size:
-            raise Fault("%s: byte %d" % (name, place), "the record that begins here is cut short",
-                        "whole records: a claim has %d bytes, an answer %d" % (layout.CLAIM.size, layout.ANSWER.size))
-        record = kind(*form.unpack(data)[2:])
+    for data, at, form, kind in cut(file, name):
+        record = kind(*form.unpack_from(data, at)[2:])
         fault = problem(record)
         if fault:
             raise Fault("%s: byte %d" % (name, place), *fault)
         yield place, record
+        place += form.size
+
+
+def cut(file, name):
+    """The whole records of a file, each as a piece of the file, its place there, its form and its kind."""
+    data, at, place = b"", 0, 0
+    while True:
+        if len(data) - at < layout.CLAIM.size:
+            data, at = data[at:] + file.read(PIECE), 0
+            if not data:
+                return
+        header = layout.HEADER.unpack_from(data, at) if len(data) - at >= layout.HEADER.size else None
+        form, kind = FORMS.get(header, (None, None))
+        if form is None and header is not None:
+            raise Fault("%s: byte %d" % (name, place), "no claim or answer begins here (bytes %s)" % data[at:at + 4].hex(" "),
+                        "claimrun's output: claims (21 00 03 00) and answers (04 00 04 00)")
+        if form is None or len(data) - at < form.size:
+            raise Fault("%s: byte %d" % (name, place), "the record that begins here is cut short",
+                        "whole records: a claim has %d bytes, an answer %d" % (layout.CLAIM.size, layout.ANSWER.size))
+        yield data, at, form, kind
+        at += form.size
         place += form.size
 
 
@@ -70,9 +82,9 @@ def problem(record):
         if record.number in MEANINGS:
             return None
         return "the answer %d has no meaning" % record.number, ", ".join(map(str, MEANINGS))
-    for field, allowed in FIELD_RANGES:
-        if getattr(record, field) not in allowed:
-            return "a claim with %s %d" % (field, getattr(record, field)), ", ".join(map(str, allowed))
+    for value, (field, allowed) in zip(record[:6] + record[10:], FIELD_RANGES):
+        if value not in allowed:
+            return "a claim with %s %d" % (field, value), ", ".join(map(str, allowed))
     return None
 
 

@@ -58,6 +58,8 @@ class Mistakes:
         """What make gives, or None where it finds a mistake."""
         try:
             return make(*args)
+        except Faults:
+            raise
         except Untold:
             self.count += 1
             return None

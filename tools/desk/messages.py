@@ -142,9 +142,9 @@ def csv_values(cells):
     return values
 
 
-def csv_rows(path, found):
+def csv_rows(path, text, found):
     """The lines of a CSV source behind its header line; lines that are wrong as a whole are left out."""
-    reader = csv.reader(io.StringIO(files.read_text(path), newline=""), strict=True)
+    reader = csv.reader(io.StringIO(text, newline=""), strict=True)
     header = None
     try:
         for cells in filter(any, reader):
@@ -180,9 +180,17 @@ def is_csv(path):
 
 
 def sequence(path, found, source=None):
-    """The messages of a source in order, as Fields: those of a .csv file, of a TOML file, or of the file it names."""
+    """The messages of a source in order, as Fields, and the files that they stand in."""
+    fields_and_paths = found.take(find_sequence, path, found, source)
+    if fields_and_paths is None:
+        found.end()
+    return fields_and_paths
+
+
+def find_sequence(path, found, source):
+    """The same: the messages of a .csv file, of a TOML file, or of the file it names."""
     if is_csv(path):
-        return csv_rows(path, found), [path]
+        return csv_rows(path, files.read_text(path), found), [path]
     source = source or Source(path)
     top = source.top
     top.known(found, *book.KEYS, *book.OTHER_KEYS)
@@ -194,7 +202,7 @@ def sequence(path, found, source=None):
         inner = None if is_csv(named) else Source(named)
         if inner and inner.top.has("messages"):
             raise inner.top.fault("messages", "a file of messages that names another", "[[message]] tables")
-        return sequence(named, found, inner)[0], [path, named]
+        return find_sequence(named, found, inner)[0], [path, named]
     if not top.has("message"):
         allowed = "[[message]] tables, or messages = \"FILE\""
         if "message" not in top.misspelt:

@@ -2,6 +2,9 @@
 from . import layout
 from .sources import listing, sample
 
+ACCOUNT = "an account, 0 to %d or a name from [accounts]" % (layout.ACCOUNTS - 1)
+SECURITY = "a security, 0 to %d or its name" % (layout.SECURITIES - 1)
+
 
 class Names:
     """The names by number; an account or security without a name goes by its number."""
@@ -53,26 +56,23 @@ def read_accounts(fields, found):
 
 def find(fields, key, value, names, count):
     """The number that a value stands for: itself, or the number with this name."""
-    limits = "0 to %d" % (count - 1)
-    allowed = limits + (" or a name: " + listing(names.values()) if names else "")
-    if isinstance(value, int) and not isinstance(value, bool):
-        if not 0 <= value < count:
-            raise fields.fault(key, "%d is out of range" % value, allowed)
-        return value
     if isinstance(value, str):
+        wanted = value.strip()
         for number, name in names.items():
-            if name == value.strip():
+            if name == wanted:
                 return number
-    raise fields.fault(key, "%s is not known" % sample(value), allowed)
+    elif isinstance(value, int) and not isinstance(value, bool) and 0 <= value < count:
+        return value
+    out = isinstance(value, int) and not isinstance(value, bool)
+    raise fields.fault(key, "%d is out of range" % value if out else "%s is not known" % sample(value),
+                       "0 to %d" % (count - 1) + (" or a name: " + listing(names.values()) if names else ""))
 
 
 def account(fields, key, names):
     """The account under a key."""
-    allowed = "an account, 0 to %d or a name from [accounts]" % (layout.ACCOUNTS - 1)
-    return find(fields, key, fields.value(key, allowed), names.accounts, layout.ACCOUNTS)
+    return find(fields, key, fields.value(key, ACCOUNT), names.accounts, layout.ACCOUNTS)
 
 
 def security(fields, key, names):
     """The security under a key."""
-    allowed = "a security, 0 to %d or its name" % (layout.SECURITIES - 1)
-    return find(fields, key, fields.value(key, allowed), names.securities, layout.SECURITIES)
+    return find(fields, key, fields.value(key, SECURITY), names.securities, layout.SECURITIES)

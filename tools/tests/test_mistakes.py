@@ -70,6 +70,11 @@ class AllMistakes(Sources):
             'b.toml:11: [[security]] 1, frequency: "weekly" is not known', "m.csv:3: 3 cells",
             "m.csv:4: receiver: account 1 is the sender too", "m.csv:5: par: 0 is out of range"])
 
+    def test_beside_a_file_that_cannot_be_read(self):
+        source = self.file("s.toml", 'messages = "none.csv"\n' + BOOK.replace("monthly", "weekly"))
+        self.assertEqual(self.found("run", source), ['s.toml:12: [[security]] 1, frequency: "weekly" is not known',
+                                                     "none.csv: there is no such file"])
+
     def test_of_a_pair(self):
         source = self.changed(BOOK + PAIR, ("settlement_day = 2023-04-04", "settlement_day = 2023-04-01"), ("par = 200_000", "par = 0"),
                               ("settlement_day = 2023-03-31\nsender = 1", "settlement_day = 2023-03-31\nsender = 2"))

@@ -35,7 +35,7 @@ pub fn serve(
 ) -> Served {
     let mut sound = match Sound::judge(calendar, tables, book, balances) {
         Ok(sound) => sound,
-        Err(number) => return Served { number, book, consumed: 0, written: 0, over: false },
+        Err(number) => return Served { number, book, consumed: 0, written: 0, over: false, full: false },
     };
     let (mut consumed, mut written, mut over) = (0, 0, false);
     while !over && output.len() - written >= RECORD_ROOM {
@@ -59,5 +59,6 @@ pub fn serve(
         consumed += size;
         written += at + ANSWER_BYTES;
     }
-    Served { number: 0, book: sound.book, consumed, written, over }
+    let full = output.len() - written < RECORD_ROOM;
+    Served { number: 0, book: sound.book, consumed, written, over, full }
 }

@@ -5,7 +5,7 @@ use mathlib.Core.List.{List}
 use Prim.Native.Nat.{ℕ, zero, suc, _+_, _-_, _≤_}
 use native.Mathlib.Nat.{sub-zero}
 use native.Mathlib.Omega.{arith}
-use lib.Dec.{eqb, ltb}
+use lib.Dec.{eqb}
 use lib.ListN.{length, take, drop, length-take}
 use borrow.Author.Tests.{eq-eqb, ne-eqb}
 use Rattle.lists.specs.Tests.{cond-true, cond-false}
@@ -20,7 +20,7 @@ use Rattle.stream.specs.Serving.{Leaves, leftServed, leaves}
 use Rattle.stream.proofs.Bounds.{served-inside}
 use Rattle.book_file.specs.BookFile.{calendarIn, tablesIn, dayIn}
 use Rattle.program.specs.declared.Held.{Held}
-use Rattle.program.specs.Steps.{Beginning, refusedHeld, openHeld, openingFor, opening, begins, leftBeginning, Holding, holding, hasEnded, isFull, isOver, heldAfter, servedIn, afterServing, resting, stepped}
+use Rattle.program.specs.Steps.{Beginning, refusedHeld, openHeld, openingFor, opening, begins, leftBeginning, Holding, holding, hasEnded, isOver, heldAfter, servedIn, afterServing, resting, stepped}
 
 -- ---- the end of the input
 
@@ -35,30 +35,29 @@ module _ (held : Held) (got : ℕ) where
 
 -- ---- the end of a run
 
-module _ (s : Served) (ended full : Bool) where
-  pub over-unsound : (s .number ≡ 0 → ⊥) → true ≡ isOver s ended full
+module _ (s : Served) (ended : Bool) where
+  pub over-unsound : (s .number ≡ 0 → ⊥) → true ≡ isOver s ended
   unfolding isOver
-  over-unsound n = ap (λ (b : Bool). not b || (s .over || (ended && not full))) (sym (ne-eqb (s .number) 0 n))
+  over-unsound n = ap (λ (b : Bool). not b || (s .over || (ended && not (s .full)))) (sym (ne-eqb (s .number) 0 n))
 
-  pub over-five : s .number ≡ 0 → (b : Bool) → s .over ≡ b → b || (ended && not full) ≡ isOver s ended full
+  pub over-five : s .number ≡ 0 → (b : Bool) → s .over ≡ b → b || (ended && not (s .full)) ≡ isOver s ended
   unfolding isOver
-  over-five z b o = λ i. not (sym (eq-eqb (s .number) 0 z) i) || (sym o i || (ended && not full))
+  over-five z b o = λ i. not (sym (eq-eqb (s .number) 0 z) i) || (sym o i || (ended && not (s .full)))
 
-  pub over-room : s .number ≡ 0 → s .over ≡ false → (b : Bool) → ended ≡ b → b && not full ≡ isOver s ended full
-  over-room z o b e = ap (λ (c : Bool). c && not full) (sym e) ∙ over-five z false o
+  pub over-room : s .number ≡ 0 → s .over ≡ false → (b : Bool) → ended ≡ b → b && not (s .full) ≡ isOver s ended
+  over-room z o b e = ap (λ (c : Bool). c && not (s .full)) (sym e) ∙ over-five z false o
 
-pub held-is : (s : Served) (ended : Bool) (have room : ℕ) (over asks : Bool) → over ≡ isOver s ended (ltb (room - s .written) 65542)
-    → asks ≡ not over && not (ltb (room - s .written) 65542)
-    → record { book = s .book; left = have - s .consumed; written = s .written; ended = ended; over = over; asks = asks } ≡ heldAfter s ended have room
-unfolding heldAfter isFull
-held-is s ended have room over asks o a =
+pub held-is : (s : Served) (ended : Bool) (have : ℕ) (over asks : Bool) → over ≡ isOver s ended → asks ≡ not over && not (s .full)
+    → record { book = s .book; left = have - s .consumed; written = s .written; ended = ended; over = over; asks = asks } ≡ heldAfter s ended have
+unfolding heldAfter
+held-is s ended have over asks o a =
     λ i. record {
       book = s .book;
       left = have - s .consumed;
       written = s .written;
       ended = ended;
       over = o i;
-      asks = (a ∙ ap (λ (b : Bool). not b && not (ltb (room - s .written) 65542)) o) i;
+      asks = (a ∙ ap (λ (b : Bool). not b && not (s .full)) o) i;
     }
 
 -- ---- the beginning
@@ -129,16 +128,13 @@ module _ (calendar tables : List ℕ) (ended : Bool) (book : Book) (balances₀ 
   pub rest-inside : have ≤ length input₀ → s .consumed + (have - s .consumed) ≤ length input₀
   rest-inside h = omega (arith, consumed-inside)
 
-  pub run-inside : length output ≡ length output₀ → (s .consumed ≤ have) × (s .written ≤ length output)
-  run-inside q = (consumed-inside, omega (arith, inside .1, q))
-
 module _ (calendar tables : List ℕ) (held : Held) (balances₀ input₀ output₀ : List ℕ) (got : ℕ) where
   pub steps-rest : held .over ≡ true → (r : Held) → r ≡ resting held
       → holding r balances₀ input₀ output₀ ≡ stepped calendar tables (holding held balances₀ input₀ output₀) got
   unfolding stepped holding
   steps-rest o r e = ap (λ (x : Held). holding x balances₀ input₀ output₀) e ∙ sym (cond-true _ _ o)
 
-  left-is : (ended : Bool) (s : Served) (balances output input : List ℕ) (r : Held) → r ≡ heldAfter s ended (held .left + got) (length output₀)
+  left-is : (ended : Bool) (s : Served) (balances output input : List ℕ) (r : Held) → r ≡ heldAfter s ended (held .left + got)
       → input ≡ put input₀ 0 (drop (s .consumed) (take (held .left + got) input₀))
       → holding r balances input output
       ≡ afterServing (holding held balances₀ input₀ output₀) ended (held .left + got) (leftServed s balances output)
@@ -149,13 +145,13 @@ module _ (calendar tables : List ℕ) (held : Held) (balances₀ input₀ output
       → leftServed s balances output
       ≡ leaves calendar tables ended (held .book) balances₀ (take (held .left + got - 0) (drop 0 input₀)) output₀
       → (input : List ℕ) → input ≡ put input₀ 0 (take (held .left + got - s .consumed) (drop (s .consumed) input₀))
-      → length output ≡ length output₀ → (r : Held) → r ≡ heldAfter s ended (held .left + got) (length output)
+      → (r : Held) → r ≡ heldAfter s ended (held .left + got)
       → holding r balances input output ≡ stepped calendar tables (holding held balances₀ input₀ output₀) got
   unfolding stepped holding
-  steps-on o ended e s balances output l input m z r q =
+  steps-on o ended e s balances output l input m r q =
       let h : Holding = holding held balances₀ input₀ output₀ in
       let have = held .left + got in
-      left-is ended s balances output input r (q ∙ ap (heldAfter s ended have) z) (m ∙ ap (put input₀ 0) (sym (drop-take (s .consumed) have input₀)))
+      left-is ended s balances output input r q (m ∙ ap (put input₀ 0) (sym (drop-take (s .consumed) have input₀)))
       ∙ ap (afterServing h ended have)
       (l ∙ ap (λ (n : ℕ). leaves calendar tables ended (held .book) balances₀ (take n input₀) output₀) (sub-zero have))
       ∙ ap (λ (b : Bool). afterServing h b have (leaves calendar tables b (held .book) balances₀ (take have input₀) output₀)) e

@@ -8,7 +8,6 @@ use lib.Dec.{eqb, ltb}
 use lib.ListN.{length, take, drop, length-take, length-drop}
 use lib.Seq.{take-at, length-take-le}
 use Rattle.lists.specs.Put.{put, put-start, put-length}
-use Rattle.program.specs.Steps.{isFull, hasEnded}
 
 -- ---- flags
 

@@ -15,13 +15,13 @@ use Rattle.book.specs.Soundness.{openingCauses}
 use Rattle.history.specs.Causes.{openingNumber}
 use Rattle.history.specs.Results.{openedFor, opened}
 use Rattle.history.specs.Ledger.{started, isIncrease, isDecrease, increasedBy, decreasedBy, increases, decreases, parLent, transferCount, transfers, bookOf, balancesOf, numberOn, dayAfter, keep, answerFor, judged}
-use Rattle.stream.specs.Serving.{leavesFor, leaves}
+use Rattle.stream.specs.Serving.{isFull, leavesFor, leaves}
 use Rattle.stream.specs.Statement.{ledgerBytes}
 use Rattle.stream.proofs.Rows.{computed, message, closing, example, accepted, five, sameBytes}
 use Rattle.book_file.specs.BookFile.{wordsIn, calendarIn, tablesIn, dayIn}
 use Rattle.program.specs.declared.Held.{Held}
 use Rattle.program.specs.Claimrun.{missing, holds, noBalances, fileNumber, writtenFor, claimrunBytes}
-use Rattle.program.specs.Steps.{Beginning, refusedHeld, openHeld, openingFor, opening, begins, Holding, holding, pending, toWrite, hasEnded, isFull, isOver, heldAfter, servedIn, afterServing, resting, stepped}
+use Rattle.program.specs.Steps.{Beginning, refusedHeld, openHeld, openingFor, opening, begins, Holding, holding, pending, toWrite, hasEnded, isOver, heldAfter, servedIn, afterServing, resting, stepped}
 use Rattle.program.specs.Statement.{atFirst}
 
 -- ---- books

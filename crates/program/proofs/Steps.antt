@@ -16,13 +16,13 @@ use Rattle.book.specs.Soundness.{bookCauses}
 use Rattle.stream.specs.declared.Next.{Next}
 use Rattle.stream.specs.declared.Next.the-variants.{Waiting}
 use Rattle.stream.specs.Stream.{next, streamBytes}
-use Rattle.stream.specs.Serving.{Serving, serving, Leaves, leavesFor, leaves}
+use Rattle.stream.specs.Serving.{Serving, serving, isFull, Leaves, leavesFor, leaves}
 use Rattle.stream.proofs.Headers.{waiting-end}
 use Rattle.stream.proofs.Cuts as cuts
 use Rattle.stream.proofs.Stops.{serving-stops, serving-works}
 use Rattle.stream.proofs.ServedRuns.{leaves-sound, written-bytes}
 use Rattle.program.specs.declared.Held.{Held}
-use Rattle.program.specs.Steps.{Holding, holding, pending, toWrite, hasEnded, isFull, isOver, heldAfter, servedIn, afterServing, resting, stepped}
+use Rattle.program.specs.Steps.{Holding, holding, pending, toWrite, hasEnded, isOver, heldAfter, servedIn, afterServing, resting, stepped}
 use Rattle.program.specs.Statement.{Taken, Keeps, still}
 use Rattle.program.proofs.Flags.{not-over, not-ended, asks-open, rests-full, over-ended, is-false, moved}
 

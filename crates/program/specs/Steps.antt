@@ -3,7 +3,7 @@
 use mathlib.Core.Bool.{Bool, cond, not, true, false, _&&_, _||_}
 use mathlib.Core.List.{List, []}
 use Prim.Native.Nat.{ℕ, zero, suc, _+_, _-_}
-use lib.Dec.{eqb, ltb}
+use lib.Dec.{eqb}
 use lib.ListN.{length, take, drop}
 use Rattle.lists.specs.Put.{put}
 use Rattle.days.specs.Days.{firstDate}
@@ -11,7 +11,7 @@ use Rattle.book.specs.declared.Book.{Book}
 use Rattle.history.specs.Results.{Opened, opened}
 use Rattle.stream.specs.declared.Served.{Served}
 use Rattle.stream.specs.Stream.{answerBytes}
-use Rattle.stream.specs.Serving.{Leaves, leaves, recordRoom}
+use Rattle.stream.specs.Serving.{Leaves, leaves}
 use Rattle.book_file.specs.BookFile.{calendarIn, tablesIn, dayIn}
 use Rattle.program.specs.declared.Held.{Held}
 use Rattle.program.specs.Claimrun.{bookBytes}
@@ -86,37 +86,33 @@ toWrite h = take (h .held .written) (h .output)
 unfoldable pub hasEnded : Held → ℕ → Bool
 hasEnded held got = held .ended || (held .asks && eqb got 0)
 
--- The output has no room for another record behind what was written.
-unfoldable pub isFull : ℕ → ℕ → Bool
-isFull room written = ltb (room - written) recordRoom
-
 -- The run is over: after a 5, or where the input has ended and there was room for another record, so that none is left; and on a book that
 -- is not sound, where nothing is worked.
-unfoldable pub isOver : Served → Bool → Bool → Bool
-isOver s ended full = not (eqb (s .number) 0) || (s .over || (ended && not full))
+unfoldable pub isOver : Served → Bool → Bool
+isOver s ended = not (eqb (s .number) 0) || (s .over || (ended && not (s .full)))
 
--- What is held after a run of serve on have bytes in an output of some room. More input is asked for where the run is not over and has
+-- What is held after a run of serve on have bytes. More input is asked for where the run is not over and has
 -- worked every whole record.
-unfoldable pub heldAfter : Served → Bool → ℕ → ℕ → Held
-heldAfter s ended have room =
+unfoldable pub heldAfter : Served → Bool → ℕ → Held
+heldAfter s ended have =
     record {
       book = s .book;
       left = have - s .consumed;
       written = s .written;
       ended = ended;
-      over = isOver s ended (isFull room (s .written));
-      asks = not (isOver s ended (isFull room (s .written))) && not (isFull room (s .written));
+      over = isOver s ended;
+      asks = not (isOver s ended) && not (s .full);
     }
 
 -- The answer of serve in what it leaves.
 unfoldable pub servedIn : Leaves → Served
-servedIn l = record { number = l .number; book = l .book; consumed = l .consumed; written = l .written; over = l .over }
+servedIn l = record { number = l .number; book = l .book; consumed = l .consumed; written = l .written; over = l .over; full = l .full }
 
 -- After a run of serve: the bytes that it did not work stand at the input's start.
 unfoldable pub afterServing : Holding → Bool → ℕ → Leaves → Holding
 afterServing h ended have l =
     record {
-      held = heldAfter (servedIn l) ended have (length (h .output));
+      held = heldAfter (servedIn l) ended have;
       balances = l .balances;
       input = put (h .input) 0 (drop (l .consumed) (take have (h .input)));
       output = l .output;

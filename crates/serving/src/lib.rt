@@ -10,7 +10,7 @@ ghost use Rattle.book.specs.Soundness.{bookCauses};
 ghost use Rattle.history.specs.Results.{left, result};
 ghost use Rattle.records.specs.MessageRecords.{header};
 ghost use Rattle.stream.specs.Stream.{next, claimRoom, callWith, answerBytes};
-ghost use Rattle.stream.specs.Serving.{worked, working, serving, leftServed, leavesFor, leaves};
+ghost use Rattle.stream.specs.Serving.{worked, working, serving, isFull, leftServed, leavesFor, leaves};
 use book::Book;
 use book::Done;
 use records::Answer;
@@ -127,9 +127,10 @@ fn work(
     }
 }
 
-// The answer of a run that judged calendar, tables, book and balances sound.
-fn sound_run(book: Book, consumed: usize, written: usize, over: bool) -> Served
-    ensures { λ r. ⌜ r ≡ record { number = 0; book = book; consumed = consumed; written = written; over = over } ⌝ }
+// The answer of a run that judged calendar, tables, book and balances sound, in an output of some room.
+fn sound_run(book: Book, consumed: usize, written: usize, over: bool, room: usize) -> Served
+    requires { ⌜ written ≤ room ⌝ }
+    ensures { λ r. ⌜ r ≡ record { number = 0; book = book; consumed = consumed; written = written; over = over; full = isFull room written } ⌝ }
 {
     Served {
         number: 0,
@@ -137,6 +138,7 @@ fn sound_run(book: Book, consumed: usize, written: usize, over: bool) -> Served
         consumed,
         written,
         over,
+        full: room - written < RECORD_ROOM,
     }
 }
 
@@ -159,10 +161,10 @@ fn serve_sound(
     while RECORD_ROOM <= output.len() - out {
         let size = match next_record(&input[at..], ended) {
             Next::Record(size) => size,
-            Next::Waiting => return sound_run(b, at, out, false),
+            Next::Waiting => return sound_run(b, at, out, false, output.len()),
             Next::Wrong => {
                 put_answer(output, out, 5);
-                return sound_run(b, at, out + 6, true);
+                return sound_run(b, at, out + 6, true, output.len());
             }
         };
         let w = work(
@@ -178,7 +180,7 @@ fn serve_sound(
         at += size;
         out += w.written;
     }
-    sound_run(b, at, out, false)
+    sound_run(b, at, out, false, output.len())
 }
 
 // Serves a run of input: works its records into the output while there is room for another, and stops at one that is not whole yet, or
@@ -203,6 +205,7 @@ pub fn serve(
             consumed: 0,
             written: 0,
             over: false,
+            full: false,
         };
     }
     serve_sound(calendar, tables, book, balances, input, ended, output)

@@ -6,7 +6,7 @@ ghost use Prim.Native.Nat.{_+_, _≤_};
 ghost use lib.ListN.{length, take, drop};
 ghost use Rattle.lists.specs.Put.{put};
 ghost use Rattle.stream.specs.Stream.{answerBytes};
-ghost use Rattle.program.specs.Steps.{refusedHeld, begins, leftBeginning, hasEnded, isFull, isOver, heldAfter, resting, holding, stepped};
+ghost use Rattle.program.specs.Steps.{refusedHeld, begins, leftBeginning, hasEnded, isOver, heldAfter, resting, holding, stepped};
 use book::Book;
 use days::Date;
 use program::Held;
@@ -91,8 +91,8 @@ fn has_ended(held: Held, got: usize) -> bool
 }
 
 // Whether the run is over: on a book that is not sound, after a 5, or at the end of the input with room left.
-fn is_over(s: Served, ended: bool, full: bool) -> bool
-    ensures { λ r. ⌜ r ≡ isOver s ended full ⌝ }
+fn is_over(s: Served, ended: bool) -> bool
+    ensures { λ r. ⌜ r ≡ isOver s ended ⌝ }
 {
     if s.number != 0 {
         return true;
@@ -101,7 +101,7 @@ fn is_over(s: Served, ended: bool, full: bool) -> bool
         return true;
     }
     if ended {
-        return !full;
+        return !s.full;
     }
     false
 }
@@ -116,13 +116,12 @@ fn is_neither(a: bool, b: bool) -> bool
     !b
 }
 
-// What is held after a run of serve on have bytes in an output of some room.
-fn held_after(s: Served, ended: bool, have: usize, room: usize) -> Held
-    requires { ⌜ (s .consumed ≤ have) × (s .written ≤ room) ⌝ }
-    ensures { λ r. ⌜ r ≡ heldAfter s ended have room ⌝ }
+// What is held after a run of serve on have bytes.
+fn held_after(s: Served, ended: bool, have: usize) -> Held
+    requires { ⌜ s .consumed ≤ have ⌝ }
+    ensures { λ r. ⌜ r ≡ heldAfter s ended have ⌝ }
 {
-    let full = room - s.written < serving::RECORD_ROOM;
-    let over = is_over(s, ended, full);
+    let over = is_over(s, ended);
     let book = s.book;
     Held {
         book,
@@ -130,7 +129,7 @@ fn held_after(s: Served, ended: bool, have: usize, room: usize) -> Held
         written: s.written,
         ended,
         over,
-        asks: is_neither(over, full),
+        asks: is_neither(over, s.full),
     }
 }
 
@@ -180,5 +179,5 @@ pub fn step(
     );
     let consumed = s.consumed;
     move_down(input, consumed, have - consumed);
-    held_after(s, ended, have, output.len())
+    held_after(s, ended, have)
 }

@@ -26,7 +26,7 @@ use Rattle.stream.specs.declared.Next.the-variants.{Waiting, Wrong, Reco
 use Rattle.stream.specs.declared.Served.{Served}
 use Rattle.stream.specs.declared.Worked.{Worked}
 use Rattle.stream.specs.Stream.{next, onNext, callWith, callFor, answerBytes, emitted}
-use Rattle.stream.specs.Serving.{Serving, stopped, endedByFive, after, serveUpTo, serving, Working, working, worked, leavesFor, leftServed, leaves}
+use Rattle.stream.specs.Serving.{Serving, stopped, endedByFive, after, serveUpTo, serving, isFull, Working, working, worked, leavesFor, leftServed, leaves}
 use Rattle.stream.proofs.Headers.{caseOf, next-empty, next-size}
 use Rattle.stream.proofs.Records.{answer-length, claims-fit}
 
@@ -131,12 +131,12 @@ module _ (calendar tables : List ℕ) (ended : Bool) (book₀ : Book) (balances�
   ends : {balances output : List ℕ} (at : ℕ) (bytes : List ℕ) (s : Serving) (r : Served)
       → serving calendar tables ended book₀ balances₀ input (length output₀) ≡ after at bytes s
       → r .number ≡ 0 → r .book ≡ s .book → r .consumed ≡ at + s .consumed → r .written ≡ length (bytes ++ s .bytes) → r .over ≡ s .over
-      → balances ≡ s .balances → output ≡ put output₀ 0 (bytes ++ s .bytes)
+      → r .full ≡ isFull (length output₀) (length (bytes ++ s .bytes)) → balances ≡ s .balances → output ≡ put output₀ 0 (bytes ++ s .bytes)
       → leftServed r balances output
       ≡ leavesFor 0 book₀ balances₀ output₀ (serving calendar tables ended book₀ balances₀ input (length output₀))
   unfolding leftServed leavesFor after
-  ends at bytes s r e n b c w o l p =
-      (λ i. record { number = n i; book = b i; consumed = c i; written = w i; over = o i; balances = l i; output = p i })
+  ends at bytes s r e n b c w o f l p =
+      (λ i. record { number = n i; book = b i; consumed = c i; written = w i; over = o i; full = f i; balances = l i; output = p i })
       ∙ ap (leavesFor 0 book₀ balances₀ output₀) (sym e)
 
   module _ {balances output : List ℕ} {book : Book} {at out : ℕ} (g : Going balances output book at out) where
@@ -154,15 +154,15 @@ module _ (calendar tables : List ℕ) (ended : Bool) (book₀ : Book) (balances�
 
     -- nothing more is worked
     stops : serveUpTo (g .fuel) calendar tables ended book balances (drop at input) (length output₀ - out) ≡ stopped book balances
-        → (r : Served) → r ≡ record { number = 0; book = book; consumed = at; written = out; over = false }
+        → (r : Served) → r ≡ record { number = 0; book = book; consumed = at; written = out; over = false; full = isFull (length output) out }
         → leftServed r balances output ≡ leavesFor 0 book₀ balances₀ output₀ (serving calendar tables ended book₀ balances₀ input (length output₀))
     unfolding stopped
     stops q r e =
         ends at (g .bytes) (stopped book balances) r (g .rest ∙ ap (after at (g .bytes)) q) (ap (λ (x : Served). x .number) e) (ap (λ (x : Served). x .book) e)
         (ap (λ (x : Served). x .consumed) e ∙ sym (add-zero at)) (ap (λ (x : Served). x .written) e ∙ sym (g .sized) ∙ ap length (sym (append-nil (g .bytes))))
-        (ap (λ (x : Served). x .over) e) refl (g .stored ∙ ap (put output₀ 0) (sym (append-nil (g .bytes))))
+        (ap (λ (x : Served). x .over) e) (ap (λ (x : Served). x .full) e ∙ (λ i. isFull (g .kept i) ((sym (g .sized) ∙ ap length (sym (append-nil (g .bytes)))) i))) refl (g .stored ∙ ap (put output₀ 0) (sym (append-nil (g .bytes))))
 
-    pub going-full : length output - out < 65542 → (r : Served) → r ≡ record { number = 0; book = book; consumed = at; written = out; over = false }
+    pub going-full : length output - out < 65542 → (r : Served) → r ≡ record { number = 0; book = book; consumed = at; written = out; over = false; full = isFull (length output) out }
         → leftServed r balances output ≡ leavesFor 0 book₀ balances₀ output₀ (serving calendar tables ended book₀ balances₀ input (length output₀))
     unfolding serveUpTo
     going-full h = stops (go (g .fuel))
@@ -176,7 +176,7 @@ module _ (calendar tables : List ℕ) (ended : Bool) (book₀ : Book) (balances�
     whole-rest = take-all (length input - at) (drop at input) (omega (arith, length-drop at input))
 
     pub going-waits : Waiting ≡ next ended (take (length input - at) (drop at input)) → (r : Served)
-        → r ≡ record { number = 0; book = book; consumed = at; written = out; over = false }
+        → r ≡ record { number = 0; book = book; consumed = at; written = out; over = false; full = isFull (length output) out }
         → leftServed r balances output ≡ leavesFor 0 book₀ balances₀ output₀ (serving calendar tables ended book₀ balances₀ input (length output₀))
     unfolding serveUpTo onNext
     going-waits e = stops (go (g .fuel))
@@ -190,18 +190,25 @@ module _ (calendar tables : List ℕ) (ended : Bool) (book₀ : Book) (balances�
         go (suc n) = turn (ltb (length output₀ - out) 65542) _ _ _
 
     -- what is no record gets the answer 5
-    pub going-ends : 65542 ≤ length output - out → Wrong ≡ next ended (take (length input - at) (drop at input)) → (r : Served)
-        → r ≡ record { number = 0; book = book; consumed = at; written = out + 6; over = true }
-        → {o : List ℕ} → o ≡ put output out (answerBytes 5)
+    pub going-ends : 65542 ≤ length output - out → Wrong ≡ next ended (take (length input - at) (drop at input)) → {o : List ℕ} → (r : Served)
+        → r ≡ record { number = 0; book = book; consumed = at; written = out + 6; over = true; full = isFull (length o) (out + 6) }
+        → o ≡ put output out (answerBytes 5)
         → leftServed r balances o ≡ leavesFor 0 book₀ balances₀ output₀ (serving calendar tables ended book₀ balances₀ input (length output₀))
     unfolding endedByFive caseOf
-    going-ends h e r q {o} p =
+    going-ends h e {o} r q p =
         ends at (g .bytes) (endedByFive book balances) r (g .rest ∙ ap (after at (g .bytes)) (go (g .fuel) (g .enough))) (ap (λ (x : Served). x .number) q)
         (ap (λ (x : Served). x .book) q) (ap (λ (x : Served). x .consumed) q ∙ sym (add-zero at))
-        (ap (λ (x : Served). x .written) q ∙ sym (length-append (g .bytes) (answerBytes 5) ∙ rw (g .sized, answer-length 5) refl))
-        (ap (λ (x : Served). x .over) q) refl
+        (ap (λ (x : Served). x .written) q ∙ sym five-more)
+        (ap (λ (x : Served). x .over) q)
+        (ap (λ (x : Served). x .full) q ∙ (λ i. isFull (o-length i) (sym five-more i))) refl
         (p ∙ behind (answerBytes 5) (omega (arith, g .kept, answer-length 5)))
       where
+        o-length : length o ≡ length output₀
+        o-length = ap length p ∙ put-length output out (answerBytes 5) (omega (arith, h, answer-length 5)) ∙ g .kept
+
+        five-more : length (g .bytes ++ answerBytes 5) ≡ out + 6
+        five-more = length-append (g .bytes) (answerBytes 5) ∙ rw (g .sized, answer-length 5) refl
+
         wrong : Wrong ≡ next ended (drop at input)
         wrong = rw whole-rest at e
 
@@ -307,13 +314,13 @@ module _ (calendar tables : List ℕ) (ended : Bool) (book₀ : Book) (balances�
 
 module _ (calendar tables : List ℕ) (ended : Bool) (book : Book) (balances input output : List ℕ) where
   refused-for : (n : ℕ) → (n ≡ 0 → ⊥) → (s : Serving)
-      → leftServed (record { number = n; book = book; consumed = 0; written = 0; over = false }) balances output ≡ leavesFor n book balances output s
+      → leftServed (record { number = n; book = book; consumed = 0; written = 0; over = false; full = false }) balances output ≡ leavesFor n book balances output s
   unfolding leftServed leavesFor
   refused-for zero d s = absurd (d refl)
   refused-for (suc n) d s = refl
 
   pub serves-refused : (n : ℕ) → n ≡ firstOf (bookCauses calendar tables (book .day) balances) → (n ≡ 0 → ⊥)
-      → leftServed (record { number = n; book = book; consumed = 0; written = 0; over = false }) balances output
+      → leftServed (record { number = n; book = book; consumed = 0; written = 0; over = false; full = false }) balances output
       ≡ leaves calendar tables ended book balances input output
   unfolding leaves
   serves-refused n e d =

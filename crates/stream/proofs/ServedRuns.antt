@@ -2,19 +2,21 @@
 use mathlib.Core.Path.{_≡_, refl, sym, ap, _∙_, subst}
 use mathlib.Core.Bool.{Bool, true, false}
 use mathlib.Core.List.{List, [], _∷_, _++_}
-use Prim.Native.Nat.{ℕ, _+_, _≤_}
-use native.Mathlib.Nat.{zero-add}
+use Prim.Native.Nat.{ℕ, _-_}
 use native.Mathlib.Omega.{arith}
 use lib.ListN.{length, take, drop}
 use lib.Seq.{take-at}
+use borrow.Author.Tests.{ltb-false}
 use Rattle.lists.specs.First.{firstOf}
 use Rattle.lists.specs.Put.{put, put-start}
 use Rattle.book.specs.declared.Book.{Book}
 use Rattle.book.specs.Soundness.{bookCauses}
 use Rattle.history.specs.Results.{opened}
-use Rattle.stream.specs.Serving.{Serving, serving, Leaves, leavesFor, leftServed, leaves}
+use Rattle.stream.specs.Stream.{next}
+use Rattle.stream.specs.Serving.{Serving, serving, isFull, Leaves, leavesFor, leftServed, leaves}
 use Rattle.stream.specs.Statement.{Step, Session, begun, advanced, stepped, arrived, finished, inputOf, AnswersStream}
-use Rattle.stream.specs.ServedRuns.{ServedRun, Keeps, afterRun, afterRuns, AllKeep, NoneArrives, stepsOf, EveryServedStream}
+use Rattle.stream.specs.ServedRuns.{ServedRun, Keeps, afterRun, afterRuns, AllKeep, NoneArrives, stepsOf, EveryServedStream, FullTells}
+use Rattle.stream.proofs.Stops.{serving-stops}
 use Rattle.stream.proofs.Theorem.{Sound, served, stepped-on, step-sound, opening-sound, every-stream}
 
 -- what a sound book leaves
@@ -95,3 +97,14 @@ every-served-stream calendar tables balances day e runs last k n l =
     subst (AnswersStream calendar tables day (inputOf (stepsOf runs)))
     (sym (f ∙ ap (λ (t : Session). finished calendar tables t (roomsOf calendar tables last)) (a .0)))
     (every-stream calendar tables balances day e (stepsOf runs) (roomsOf calendar tables last))
+
+pub full-tells : FullTells
+unfolding afterRun leavesFor leftServed isFull
+full-tells calendar tables ended s x z o k v f =
+    let r : Serving = serving calendar tables ended (s .book) (s .balances) (s .pending ++ x .arrived) (length (x .found)) in
+    let e : leftServed (x .answer) (x .balances) (x .output) ≡ leavesFor 0 (s .book) (s .balances) (x .found) r =
+    k ∙ leaves-sound calendar tables ended (s .book) (s .balances) (s .pending ++ x .arrived) (x .found) z in
+    let room = ltb-false (length (x .found) - length (r .bytes)) 65542 (sym (ap (λ (l : Leaves). l .full) e) ∙ f) in
+    serving-stops calendar tables ended (s .book) (s .balances) (s .pending ++ x .arrived) (length (x .found)) (sym (ap (λ (l : Leaves). l .over) e) ∙ v)
+    (omega (arith, room))
+    ∙ ap (λ (l : Leaves). next ended (drop (l .consumed) (s .pending ++ x .arrived))) (sym e)

@@ -6,8 +6,12 @@ use mathlib.Core.Bool.{Bool, true, false}
 use mathlib.Core.List.{List, [], _∷_, _++_}
 use Prim.Native.Nat.{ℕ}
 use lib.ListN.{length, take, drop}
+use Rattle.lists.specs.First.{firstOf}
+use Rattle.book.specs.Soundness.{bookCauses}
 use Rattle.history.specs.Results.{Opened, opened}
 use Rattle.stream.specs.declared.Served.{Served}
+use Rattle.stream.specs.declared.Next.the-variants.{Waiting}
+use Rattle.stream.specs.Stream.{next}
 use Rattle.stream.specs.Serving.{leftServed, leaves}
 use Rattle.stream.specs.Statement.{Step, Session, begun, inputOf, AnswersStream}
 
@@ -62,3 +66,10 @@ EveryServedStream = (calendar tables balances : List ℕ) (day : ℕ) → opened
     → (runs last : List ServedRun) → AllKeep calendar tables false (begun (opened calendar tables balances day)) runs → NoneArrives last
     → AllKeep calendar tables true (afterRuns (begun (opened calendar tables balances day)) runs) last
     → AnswersStream calendar tables day (inputOf (stepsOf runs)) (afterRuns (afterRuns (begun (opened calendar tables balances day)) runs) last)
+
+-- What the flag full tells: after a call that kept the contract on a sound book, was not ended by a 5 and did not fill its output, nothing is
+-- left that could be worked, so that more input is to be sent; where the output is full, it is to be written away first.
+abbrev pub FullTells : Type 0
+FullTells = (calendar tables : List ℕ) (ended : Bool) (s : Session) (x : ServedRun)
+    → firstOf (bookCauses calendar tables (s .book .day) (s .balances)) ≡ 0 → s .over ≡ false → Keeps calendar tables ended s x
+    → x .answer .over ≡ false → x .answer .full ≡ false → Waiting ≡ next ended (afterRun s x .pending)

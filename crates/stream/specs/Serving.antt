@@ -77,6 +77,10 @@ worked r balances output = record { book = r .book; balances = balances; written
 
 -- ---- what serve answers and leaves
 
+-- The output has no room for another record behind the bytes that were written.
+unfoldable pub isFull : ℕ → ℕ → Bool
+isFull room written = ltb (room - written) recordRoom
+
 -- Numbers, book, balances and output after a run.
 pub record Leaves : Type 0 where
   pub number : ℕ
@@ -84,6 +88,7 @@ pub record Leaves : Type 0 where
   pub consumed : ℕ
   pub written : ℕ
   pub over : Bool
+  pub full : Bool
   pub balances : List ℕ
   pub output : List ℕ
 
@@ -95,11 +100,12 @@ leavesFor zero book balances output s =
       consumed = s .consumed;
       written = length (s .bytes);
       over = s .over;
+      full = isFull (length output) (length (s .bytes));
       balances = s .balances;
       output = put output 0 (s .bytes);
     }
 leavesFor (suc n) book balances output s =
-    record { number = suc n; book = book; consumed = 0; written = 0; over = false; balances = balances; output = output }
+    record { number = suc n; book = book; consumed = 0; written = 0; over = false; full = false; balances = balances; output = output }
 
 -- A book, calendar, tables or balances that are not sound get their number, and nothing is worked or written; else the output begins with
 -- the bytes of the run, and what stands behind them is as found.
@@ -117,6 +123,7 @@ leftServed r balances output =
       consumed = r .consumed;
       written = r .written;
       over = r .over;
+      full = r .full;
       balances = balances;
       output = output;
     }

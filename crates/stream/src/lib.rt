@@ -17,7 +17,8 @@ pub struct Worked {
 }
 
 // What a run answers: the number 1 to 4 that calendar, tables, book or balances meet, or 0; the book after it, how many bytes of the input
-// were worked, how many bytes of the output were written, and whether a 5 has ended the stream.
+// were worked, how many bytes of the output were written, whether a 5 has ended the stream, and whether the output is full: it has no room
+// for another record behind what was written.
 #[repr(C)]
 pub struct Served {
     pub number: u16,
@@ -25,4 +26,5 @@ pub struct Served {
     pub consumed: usize,
     pub written: usize,
     pub over: bool,
+    pub full: bool,
 }

@@ -1,5 +1,5 @@
 -- A step serves what is there, moves the rest to the input's start, and says what is held.
-use Rattle.program.proofs.Coded.{steps-rest, consumed-inside, rest-inside, run-inside, steps-on}
+use Rattle.program.proofs.Coded.{steps-rest, consumed-inside, rest-inside, steps-on}
 use borrow.Author.Needs.{needs}
 use Rattle.steps.proofs.step.Statement.{statement}
 use Rattle.steps.proofs.step.Tie as tie
@@ -35,7 +35,7 @@ move-down-requires : tie.Need-move-down-requires
 move-down-requires c κs = rest-inside _ _ _ _ _ _ _ _ _ _ _ (c .before .before .before .before .before .serve .ensures) (search needs)
 
 held-after-requires : tie.Need-held-after-requires
-held-after-requires c κs = run-inside _ _ _ _ _ _ _ _ _ _ _ (c .before .before .before .before .before .before .before .before .serve .ensures) (search needs)
+held-after-requires c κs = consumed-inside _ _ _ _ _ _ _ _ _ _ _ (c .before .before .before .before .before .before .before .before .serve .ensures)
 
 same-length : tie.Need-same-length
 same-length c = search needs
@@ -47,7 +47,7 @@ same-length-3 : tie.Need-same-length-3
 same-length-3 c = search needs
 
 returns-2 : tie.Need-returns-2
-returns-2 c = steps-on _ _ _ _ _ _ _ (c .before .before .before .before .before .before .before .before .before .before .before .before .before .before .before .before .before .if1 .left) _ (c .before .before .before .before .before .before .before .before .before .before .before .before .before .before .before .before .has-ended .ensures) _ _ _ (c .before .before .before .before .before .before .before .before .before .serve .ensures) _ (c .before .before .before .move-down .ensures) (search needs) _ (c .held-after .ensures)
+returns-2 c = steps-on _ _ _ _ _ _ _ (c .before .before .before .before .before .before .before .before .before .before .before .before .before .before .before .before .before .if1 .left) _ (c .before .before .before .before .before .before .before .before .before .before .before .before .before .before .before .before .has-ended .ensures) _ _ _ (c .before .before .before .before .before .before .before .before .before .serve .ensures) _ (c .before .before .before .move-down .ensures) _ (c .held-after .ensures)
 
 pub step-spec : {M : Type 1} → statement M
 step-spec =
