@@ -116,8 +116,8 @@ enum claim_tracker_number {
     CLAIM_TRACKER_WRONG_LENGTH = 1,             /* calendar, tables or balances have another number of words */
     CLAIM_TRACKER_BAD_CALENDAR = 2,             /* the calendar has a bit for a day that the month lacks */
     CLAIM_TRACKER_BAD_TABLES = 3,               /* the tables break a rule */
-    CLAIM_TRACKER_BAD_BOOK = 4,                 /* the day is not open or no open day follows it; a balance is too large, or an account's
-                                                   with itself */
+    CLAIM_TRACKER_BAD_BOOK = 4,                 /* the day is not open or no open day follows it; a balance is above 9,000,000,000, or an
+                                                   account's with itself is not 0 */
     CLAIM_TRACKER_BAD_RECORD = 5,               /* the record is cut short, or its length or kind is not the call's */
     CLAIM_TRACKER_BAD_FIELD = 6,                /* an account or a security above 15, an unused security, a class above 1, a code above 6, a
                                                    par of 0 or above 100,000,000, or the sender is the receiver */

@@ -1,8 +1,8 @@
 """The claim tracker in Python: the calls, records and numbers of claim_tracker.h, by the shared library.
 
 Calendar and tables are array('I'), balances array('Q'), buffers that a call writes to bytearray, and messages bytes; other objects that
-give such memory will do. A refused call answers its number. A wrong type, a value that its field cannot hold, a buffer that cannot be written to
-or buffers that overlap raise TypeError or ValueError, and nothing is called. FORMATS.md says what the words and bytes mean.
+give such memory will do. A refused call answers its number. A wrong type, a value that its field cannot hold, a buffer that cannot be
+written to or buffers that overlap raise TypeError or ValueError, and nothing is called. FORMATS.md says what the words and bytes mean.
 
 The library is the file that the environment variable CLAIM_TRACKER_LIBRARY names, else libclaim_tracker.so.1 beside this module.
 """

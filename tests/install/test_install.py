@@ -168,8 +168,9 @@ class Files(Install):
             print("man is not installed: the man pages are not looked up", file=sys.stderr)
             return
         manuals = os.path.join(self.prefix(), "share/man")
+        plain = os.environ | {"MANWIDTH": "120", "LC_ALL": "C"}
         for name, words in (("claimrun", "book.dat"), ("claimdesk", "claims check"), ("claim_tracker", "claim_tracker_serve")):
-            self.assertIn(words, self.run_text("man", "-P", "cat", "-M", manuals, name, env=os.environ | {"MANWIDTH": "120", "LC_ALL": "C"}))
+            self.assertIn(words, self.run_text("man", "-P", "cat", "-M", manuals, name, env=plain))
 
 
 class Building(Install):

@@ -67,10 +67,12 @@ def random_calls(count, seed):
         if kind < 0.1:
             lines.append("close%s %d 02000200" % (form, room))
         elif kind < 0.15:
-            lines.append("%s%s %d %s" % (choice.choice(("transfer", "close")), form, room, choice.choice(("-", "8b00", "02000200", "04000400"))))
+            record = choice.choice(("-", "8b00", "02000200", "04000400"))
+            lines.append("%s%s %d %s" % (choice.choice(("transfer", "close")), form, room, record))
         elif kind < 0.2:
             data = "".join(choice.choice(("02000200", transfer_hex(1, 2, 0, 0, 0, 7, TAG % 20230315))) for _ in range(4))
-            lines.append("serve %d %d %s" % (choice.random() < 0.3, choice.choice((65541, 65542, 140000)), data + choice.choice(("", "8b", "0300"))))
+            data += choice.choice(("", "8b", "0300"))
+            lines.append("serve %d %d %s" % (choice.random() < 0.3, choice.choice((65541, 65542, 140000)), data))
         else:
             day = mostly(20230315, 20230401, 20230405, 20230231, 20391231)
             tag = mostly(TAG % day, "", "text " + TAG % day, TAG % day + TAG % day, "{98A:CNTR/", "{98A:CNTR/}")
@@ -233,8 +235,8 @@ class Largest(unittest.TestCase):
             self.assertEqual(claim_tracker.transfer(self.calendar, self.tables, book, self.balances, message, bytearray(room)), answer)
 
     def test_stream(self):
-        """1,872 claims of a close fit a stream. A close with more gets 10 and the day stays; one call by value works it, and the stream goes
-        on."""
+        """1,872 claims of a close fit a stream. A close with more gets 10 and the day stays; one call by value works it, and the stream
+        goes on."""
         self.lend(117)
         output, close = bytearray(claim_tracker.RECORD_ROOM), b"\2\0\2\0"
         served = claim_tracker.serve(self.calendar, self.tables, self.book, self.balances, close, False, output)
@@ -328,6 +330,14 @@ class Refusals(unittest.TestCase):
         line = memoryview(bytearray(b"{98A:CNTR/20230315}".ljust(64)))
         self.assertEqual(claim_tracker.write_transfer(bytearray(141), Transfer(1, 2, 0, 0, 0, 1), line, line), 0)
 
+    def test_empty(self):
+        """Memory of no items is lent too, and no address is null."""
+        for given, kind in ((array("I"), claim_tracker._U32), (array("Q"), claim_tracker._U64), (bytearray(), claim_tracker._U8),
+                            (b"", claim_tracker._U8), (memoryview(array("I")), claim_tracker._U32)):
+            lent = claim_tracker._Lent("given", given, kind)
+            self.assertEqual((lent.count, lent.address != 0), (0, True))
+        self.assertEqual(claim_tracker.open(array("I"), array("I"), array("Q"), DAY), (Number.WRONG_LENGTH, Book(20000101), 0))
+
     def test_ranges(self):
         for day in (-1, 2 ** 32):
             self.refused(ValueError, r"\Aday: -?\d+; allowed: 0 to 4294967295\Z", claim_tracker.open, CALENDAR, TABLES, self.balances, day)
@@ -367,8 +377,8 @@ class Library(building.Library):
         source = "".join(line[4:] for line in text[text.index("    import claim_tracker\n"):].splitlines(keepends=True)
                          if line.startswith("    "))
         self.file("book.dat", common.BOOK)
-        run = subprocess.run([sys.executable, "-B", "-c", source], capture_output=True, text=True, timeout=building.SECONDS, cwd=self.folder,
-                             env=os.environ | {"PYTHONPATH": PYTHON})
+        run = subprocess.run([sys.executable, "-B", "-c", source], capture_output=True, text=True, timeout=building.SECONDS,
+                             cwd=self.folder, env=os.environ | {"PYTHONPATH": PYTHON})
         self.assertEqual((run.returncode, run.stderr), (0, ""))
         self.assertEqual(run.stdout, "accepted %s\n" % (Claim(1, 0, 1, 2, 0, 0, 1, 100000, 0, 20230417, 3),))
 
