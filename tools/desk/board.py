@@ -4,7 +4,7 @@ import tempfile
 from html import escape
 
 from . import book as books
-from . import claims, dates, layout, messages, running, timeline
+from . import claims, dates, factors, layout, messages, running, timeline
 from .errors import Fault, Mistakes
 from .sources import sample
 
@@ -14,48 +14,76 @@ DAYS_AFTER = datetime.timedelta(days=60)
 KEYS = ("title", "settlement_day", "rows") + messages.TRANSFER_KEYS
 
 STYLE = """
-  :root { color-scheme: light; }
+  :root { color-scheme: light dark; --ink: #111; --paper: #fff; --soft: #444; --line: #777; --hatch: #333; }
   * { box-sizing: border-box; }
-  body { font: 16px/1.5 system-ui, "Segoe UI", "Liberation Sans", Arial, sans-serif; color: #111; background: #fff;
+  body { font: 16px/1.5 system-ui, "Segoe UI", "Liberation Sans", Arial, sans-serif; color: var(--ink); background: var(--paper);
          max-width: 70rem; margin: 0 auto; padding: 1.5rem; overflow-wrap: anywhere; }
   h1 { font-size: 1.7rem; line-height: 1.25; margin: 0 0 .5rem; }
   h2 { font-size: 1.2rem; line-height: 1.3; margin: 0 0 .5rem; }
   p { margin: 0 0 .75rem; }
   .pair { display: grid; grid-template-columns: 1fr 1fr; gap: 0 2rem; }
   .pair > * { min-width: 0; }
-  article { border-top: 3px solid #111; padding-top: .75rem; display: grid; grid-row: span 4;
+  article { border-top: 3px solid var(--ink); padding-top: .75rem; display: grid; grid-row: span 4;
             grid-template-rows: subgrid; row-gap: 0; align-items: start; }
   dl { display: grid; grid-template-columns: max-content 1fr; gap: .1rem .9rem; margin: 0 0 1rem; }
-  dt { color: #444; }
+  dt { color: var(--soft); }
   dd { margin: 0; font-weight: 600; }
   svg { display: block; width: 100%; max-width: 30rem; height: auto; font: 13px system-ui, "Segoe UI",
         "Liberation Sans", Arial, sans-serif; }
-  svg text { fill: #333; }
-  svg .marked { font-weight: 700; fill: #111; }
-  svg .closed { font-style: italic; fill: #555; }
-  svg .day { fill: #fff; stroke: #777; stroke-width: .8; }
-  svg .hatch { stroke: #333; stroke-width: 1.6; }
-  svg .solid { fill: #111; stroke: #111; }
-  svg .hollow { fill: #fff; stroke: #111; stroke-width: 1.8; stroke-linejoin: round; }
+  svg text { fill: var(--ink); }
+  svg .marked { font-weight: 700; }
+  svg .closed { font-style: italic; fill: var(--soft); }
+  svg .day { fill: var(--paper); stroke: var(--line); stroke-width: .8; }
+  svg .hatch { stroke: var(--hatch); stroke-width: 1.6; }
+  svg .solid { fill: var(--ink); stroke: var(--ink); }
+  svg .hollow { fill: var(--paper); stroke: var(--ink); stroke-width: 1.8; stroke-linejoin: round; }
+  svg .break { fill: none; stroke: var(--line); stroke-width: 1.4; stroke-dasharray: 3 3; }
   .answers { margin-top: 1.5rem; align-items: start; }
-  details { border: 2px solid #111; border-radius: .3rem; padding: .6rem .9rem; }
+  details { border: 2px solid var(--ink); border-radius: .3rem; padding: .6rem .9rem; }
   summary { cursor: pointer; font-weight: 700; }
   details[open] summary { margin-bottom: .5rem; }
-  details p:last-child { margin-bottom: 0; }
+  details ul { margin: 0 0 .75rem; padding-left: 1.2rem; }
+  table { border-collapse: collapse; margin: 0 0 .75rem; font-size: .85rem; width: 100%; overflow-wrap: normal; }
+  th, td { border: 1px solid var(--line); padding: .15rem .3rem; text-align: left; font-weight: 400; }
+  thead th { font-weight: 600; }
+  td.amount { text-align: right; }
   .paper { display: none; }
-  footer { margin-top: 1.5rem; font-size: .9rem; color: #444; }
-  @media (max-width: 40rem) { .pair { grid-template-columns: 1fr; row-gap: 1rem; } }
+  footer { margin-top: 1.5rem; font-size: .9rem; color: var(--soft); }
+  @media (max-width: 60rem) { .answers { grid-template-columns: 1fr; row-gap: 1rem; } }
+  @media (max-width: 40rem) { .pair { grid-template-columns: 1fr; row-gap: 1rem; } td, th { overflow-wrap: anywhere; } }
+  @media (prefers-color-scheme: dark) {
+    :root { --ink: #f2f2f2; --paper: #161616; --soft: #c4c4c4; --line: #a0a0a0; --hatch: #d0d0d0; }
+  }
+  @media (forced-colors: active) {
+    :root { --ink: CanvasText; --paper: Canvas; --soft: CanvasText; --line: CanvasText; --hatch: CanvasText; }
+    svg { forced-color-adjust: none; }
+  }
   @media print {
     @page { margin: 12mm; }
-    body { font-size: 11pt; max-width: none; padding: 0; }
+    :root { color-scheme: light; --ink: #111; --paper: #fff; --soft: #444; --line: #777; --hatch: #333; }
+    body { font-size: 10.5pt; max-width: none; padding: 0; }
+    h1 { font-size: 15pt; }
+    h2 { font-size: 12pt; }
+    dl { margin-bottom: .5rem; }
+    main > .pair:first-child { break-inside: avoid; }
     article { break-inside: avoid; }
+    article svg { width: auto; max-width: 100%; max-height: 142mm; }
     .pair { column-gap: 1.2rem; grid-template-columns: 1fr 1fr; }
-    .paper { display: block; margin-top: .75rem; border-bottom: 1px solid #111; height: 2.6em; }
+    .paper { display: block; margin: .5rem 0 0; border-bottom: 1px solid #111; height: 2.2em; }
     details:not([open]) { display: none; }
+    details { break-inside: avoid; }
+    details svg { max-height: 120mm; width: auto; max-width: 100%; }
     .answers:not(:has(details[open])), body:not(:has(details[open])) footer { display: none; }
     .answers { break-before: page; margin-top: 0; }
   }
 """
+COLUMNS = ("coupon", "interest", "principal", "release", "time")
+AMOUNTS = ("interest", "principal")
+
+
+def told(number):
+    """A date's number as the page writes it."""
+    return timeline.day_words(dates.of_number(number))
 
 
 class Side:
@@ -124,30 +152,82 @@ class Side:
         if transfer.market:
             found.append(("Market", "other than secondary"))
         found.append(("Contract Date", timeline.day_words(self.contract) if self.contract else "none given"))
-        return found + [("Settlement day", timeline.day_words(self.settlement))]
+        return found + [("Settlement day", timeline.day_words(self.settlement))] + self.security_facts()
+
+    def security_facts(self):
+        """What the amount of a claim is worked out from: type, frequency, and the factors of each payment that is drawn."""
+        words = self.book.tables[layout.SECURITY_WORDS * self.transfer.security:][:2]
+        if words[0] == 0:
+            return []
+        found = [("Type", "%s, %s" % (layout.name_of(layout.TYPES, words[0]), layout.name_of(layout.FREQUENCIES, words[1])))]
+        for number, row in self.rows:
+            which = ", row %d" % number if len(self.rows) > 1 else ""
+            found.append(("Payment" + which, "for each dollar of par $%s interest, $%s principal" % (
+                factors.show(row.interest), factors.show(row.principal))))
+        return found
+
+    # ---- the answers, all of it from claimrun's records
+
+    def claims(self):
+        return [record for record in self.records if isinstance(record, layout.Claim)]
 
     def outcome(self):
-        """Who owes what, as paragraphs of HTML, all of it from claimrun's records."""
-        found = [self.claim_words(record) for record in self.records if isinstance(record, layout.Claim)]
-        answer = self.records[-1]
+        """Who owes what, as HTML: the claims, whether each payment that is drawn was claimed, and the line with the release dates."""
+        made, answer = self.claims(), self.records[-1]
         if answer.number:
-            found.append("claimrun refuses the transfer: %s." % escape("%d, %s" % (
-                answer.number, claims.MEANINGS[answer.number])))
-        elif not found:
-            found.append("<strong>Nobody owes anything.</strong> claimrun accepts the transfer and writes no claim.")
-        return "".join("<p>%s</p>" % words for words in found)
+            return "<p>claimrun refuses the transfer: %s.</p>" % escape("%d, %s" % (answer.number, claims.MEANINGS[answer.number]))
+        if not made:
+            shown = "<p><strong>Nobody owes anything.</strong> claimrun accepts the transfer and writes no claim.</p>"
+        elif len(made) == 1:
+            shown = "<p>%s</p>" % self.claim_words(made[0])
+        else:
+            shown = self.claim_table(made)
+        return shown + self.coupons(made) + self.release_line(made)
 
     def claim_words(self, claim):
         """A claim or notice as a sentence."""
         names = self.book.names
         amounts = "$%s interest and $%s principal" % (claims.money(claim.interest), claims.money(claim.principal))
-        which = "the payment with Beneficiary Date %s (row %d)" % (claims.beneficiary_date(self.book, claim), claim.row)
+        which = "the payment with Beneficiary Date %s (row %d)" % (self.coupon(claim), claim.row)
         who = (escape(names.account_name(claim.payer)), escape(names.account_name(claim.payee)))
         if claim.outcome:
             return "<strong>A notice, no money moves</strong>: %s. It names %s as payer, %s as payee, %s, for %s." % (
                 claims.NOTICES[claim.outcome], *who, amounts, which)
         return "<strong>%s owes %s</strong> %s, for %s. Release date %s, %s." % (
-            *who, amounts, which, claims.release_date(claim), claims.when_or_why(claim))
+            *who, amounts, which, told(claim.release), claims.when_or_why(claim))
+
+    def coupon(self, claim):
+        """The Beneficiary Date of a claim's row."""
+        return told(layout.row_at(self.book.tables, claim.security, claim.row).beneficiary)
+
+    def claim_table(self, made):
+        """Several claims of the transfer, all between its two accounts, one to a row, and no totals."""
+        names, rows = self.book.names, []
+        for claim in made:
+            release, when = ("notice", claims.SHORT_NOTICES[claim.outcome]) if claim.outcome else (told(claim.release), claims.when_or_why(claim))
+            cells = (self.coupon(claim), "$" + claims.money(claim.interest), "$" + claims.money(claim.principal), release, when)
+            rows.append("<tr>%s</tr>" % "".join("<td%s>%s</td>" % (' class="amount"' if name in AMOUNTS else "", cell)
+                                                for name, cell in zip(COLUMNS, cells)))
+        who = (escape(names.account_name(made[0].payer)), escape(names.account_name(made[0].payee)))
+        words = "<strong>%s owes %s</strong>, payment by payment (a notice moves no money):" if any(
+            not claim.outcome for claim in made) else "<strong>Notices, no money moves</strong>: payer %s, payee %s."
+        return "<p>%s</p><table><thead><tr>%s</tr></thead><tbody>%s</tbody></table>" % (
+            words % who, "".join("<th>%s</th>" % name for name in COLUMNS), "".join(rows))
+
+    def coupons(self, made):
+        """Of each payment that is drawn, whether claimrun claimed it."""
+        found = {claim.row: "a notice" if claim.outcome else "claimed" for claim in made}
+        lines = ["<li>Beneficiary Date %s: %s</li>" % (told(row.beneficiary), found.get(number, "not claimed")) for number, row in self.rows]
+        return "<ul>%s</ul>" % "".join(lines) if lines else ""
+
+    def release_line(self, made):
+        """The time line again, with the release dates."""
+        releases = sorted({claim.release for claim in made if claim.release})
+        if not releases:
+            return ""
+        marks = [timeline.Event(dates.of_number(number), "release", "Release date") for number in releases]
+        events = self.events() + marks
+        return timeline.draw(self.number + 2, "release, " + self.title, events, timeline.Scale([events], self.book.calendar))
 
 
 class Plain(messages.Fields):

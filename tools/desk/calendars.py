@@ -20,6 +20,15 @@ def open_days(words):
     return [day for day in dates.every_day() if is_open(words, day)]
 
 
+def open_after(words, day):
+    """The next open day, or None."""
+    while day < dates.LAST:
+        day += dates.ONE_DAY
+        if is_open(words, day):
+            return day
+    return None
+
+
 def last_open(words):
     """The last open day, or None."""
     for month in range(layout.MONTHS - 1, -1, -1):

@@ -7,6 +7,10 @@ NOTICES = {1: "both amounts are zero",
            2: "the payment redeems the security",
            3: "the payer's payment went to a non-interest-bearing account"}
 TIMES = {1: "8:05", 2: "8:45", 3: "during the day"}
+SHORT_NOTICES = {1: "both zero", 2: "redeemed", 3: "restricted"}
+SHORT_TIMES = {1: "8:05", 2: "8:45", 3: "day"}
+MARKET_NAMES = {number: name for name, number in layout.MARKETS.items()}
+CODES = {number: name for name, number in layout.CODES.items()}
 CODE_NAMES = {number: "transfer" if name == "none" else name for name, number in layout.CODES.items()}
 BOOK_ANSWERS = (1, 2, 3, 4)
 LAST_ANSWER = 5
@@ -129,28 +133,25 @@ def call_words(message, names):
     if isinstance(message, layout.Rest):
         return "%s bytes that are no whole message" % format(len(message.data), ",")
     code = CODE_NAMES.get(message.code, "code %d" % message.code)
-    words = ["%s %s to %s" % (code, names.account(message.sender), names.account(message.receiver)),
-             "security %s" % names.security(message.security), "par %s" % format(message.par, ",")]
+    words = ["%s %s to %s" % (code, names.account_name(message.sender), names.account_name(message.receiver)),
+             names.security_name(message.security), "par %s" % format(message.par, ",")]
     if message.market:
         words.append("other market" if message.market == layout.MARKETS["other"] else "class %d" % message.market)
     return ", ".join(words + line_words(message.line1.rstrip(b" "), message.line2.rstrip(b" ")))
 
 
-def line_words(*lines):
-    """The free text in words: the Contract Date where there is one plain tag, then the rest."""
+def free_text(lines):
+    """The Contract Date where there is one plain tag, else None, and what else stands in each line."""
     found = [match for line in lines for match in message_text.TAG.finditer(line)]
     day = dates.of_number(int(found[0][1])) if len(found) == 1 else None
-    words = [] if day is None else ["Contract Date %s" % day]
-    for line in lines:
-        rest = line if day is None else line.replace(found[0][0], b"")
-        if rest:
-            words.append("".join(chr(byte) if 32 <= byte < 127 else "." for byte in rest))
-    return words
+    rests = lines if day is None else [line.replace(found[0][0], b"") for line in lines]
+    return day, ["".join(chr(byte) if 32 <= byte < 127 else "." for byte in rest) for rest in rests]
 
 
-def answer_words(answer):
-    """An answer's number and its meaning."""
-    return "%d %s%s" % (answer.number, "refused, " if answer.number else "", MEANINGS[answer.number])
+def line_words(*lines):
+    """The free text in words."""
+    day, rests = free_text(lines)
+    return ["Contract Date %s" % day] * (day is not None) + [rest for rest in rests if rest]
 
 
 def numbered(stream, calls=None):

@@ -32,10 +32,17 @@ def pieces(file):
 
 
 def book_make(args):
+    no_terminal(args, "a book.dat is bytes", "-o FILE, or > book.dat")
     found = Mistakes()
     made = book.make(Source(args.source), found)
     found.end()
-    files.write(args.output or "book.dat", [made.bytes()], made.paths)
+    files.write(args.output, [made.bytes()], made.paths)
+
+
+def no_terminal(args, what, allowed):
+    """Refuses to write bytes to a terminal."""
+    if args.output in (None, files.STANDARD) and sys.stdout.isatty():
+        raise Fault("standard output", "is a terminal, and %s" % what, allowed)
 
 
 def book_show(args):
@@ -44,8 +51,7 @@ def book_show(args):
 
 
 def messages_make(args):
-    if args.output is None and sys.stdout.isatty():
-        raise Fault("standard output", "is a terminal, and the records are bytes", "-o FILE, or a pipe to claimrun")
+    no_terminal(args, "the records are bytes", "-o FILE, or a pipe to claimrun")
     found = Mistakes()
     source = None if messages.is_csv(args.source) else Source(args.source)
     names, paths = names_for(args, source, found)
@@ -80,8 +86,8 @@ def messages_show(args):
 
 
 def spooled(path):
-    """A file that can be read twice; standard input where no path is given."""
-    if path is not None:
+    """A file that can be read twice; standard input where no path is given, or where it is -."""
+    if path is not None and path != files.STANDARD:
         try:
             file = open(path, "rb")
         except OSError as error:
@@ -99,15 +105,42 @@ def spooled(path):
 def claims_show(args):
     """A failed check is told once the records are shown; a file is not written then."""
     given = book.read(args.book) if args.book is not None else None
-    name = args.file or "standard input"
+    name = files.shown(args.file or files.STANDARD)
     with spooled(args.file) as output:
         fault = messages_fault(args.messages, output, name)
-        if fault is not None and args.output is not None:
+        if fault is not None and args.output not in (None, files.STANDARD):
             raise fault
         paths = [path for path in (args.file, args.messages) if path] + (given.paths if given else [])
-        files.write(args.output, claims_text.show(args.format, output, name, given), paths)
+        view = view_for(args)
+        files.write(args.output, claims_text.show(args.format, output, name, given, None if fault else calls_of(args.messages), view=view), paths)
     if fault is not None:
         raise fault
+    tell(view)
+
+
+def calls_of(path):
+    """What starts the messages of a file from the first; None where no file is given, or where it can be read only once."""
+    if path is None or path == files.STANDARD or not os.path.isfile(path):
+        return None
+
+    def start():
+        with open(path, "rb") as file:
+            yield from layout.messages(file)
+
+    return start
+
+
+def view_for(args):
+    """How records are shown: to a terminal in its width, with colour unless NO_COLOR is set."""
+    terminal = args.output in (None, files.STANDARD) and sys.stdout.isatty()
+    return claims_text.View(shutil.get_terminal_size((100, 24)).columns if terminal else None,
+                            terminal and not os.environ.get("NO_COLOR"), args.only)
+
+
+def tell(view):
+    """Tells on standard error how many messages were refused."""
+    if view.words():
+        print("claimdesk: " + view.words(), file=sys.stderr)
 
 
 def messages_fault(path, output, name):
@@ -124,7 +157,7 @@ def messages_fault(path, output, name):
 
 def claims_check(args):
     with spooled(args.messages) as sent, spooled(args.claims) as output:
-        found = checking.check(layout.messages(sent), output, args.claims)
+        found = checking.check(layout.messages(sent), output, files.shown(args.claims))
     files.write(args.output, [(found.words() + "\n").encode("utf-8")], [args.messages, args.claims])
 
 
@@ -137,7 +170,7 @@ def check(args):
         count = count_messages(args.source, source, names, found)
         held.append("%s message%s" % (format(count, ","), "" if count == 1 else "s"))
     found.end()
-    files.write(args.output, [("%s: no mistakes in %s\n" % (args.source, " and ".join(held))).encode("utf-8")], [args.source])
+    files.write(args.output, [("%s: no mistakes in %s\n" % (files.shown(args.source), " and ".join(held))).encode("utf-8")], [args.source])
 
 
 def judge_book(args, source, found):
@@ -172,12 +205,15 @@ def run(args):
             work.messages(sequence, found)
             found.end()
             work.work()
-            if args.output is None and sys.stdout.isatty():
+            if args.output in (None, files.STANDARD) and sys.stdout.isatty():
                 progress.end()
             with work.output() as output:
+                view = view_for(args)
                 shown = claims_text.show(args.format, output, "claimrun's output", made, work.calls,
-                                         lambda count: progress.show("%d records shown", count))
+                                         lambda count: progress.show("%d records shown", count), view)
                 files.write(args.output, shown, made.paths + paths)
+            progress.end()
+            tell(view)
         finally:
             progress.end()
 
@@ -208,7 +244,7 @@ def parser():
     top.add_argument("--version", action=Alone, nargs=0, help="show the version number")
     groups = top.add_subparsers(required=True, metavar="COMMAND")
 
-    def command(group, name, work, words, output="write to this file instead of standard output"):
+    def command(group, name, work, words, output="write to this file; without it, or with -, to standard output"):
         made = group.add_parser(name, help=words, description=words)
         made.set_defaults(work=work)
         made.add_argument("-o", "--output", metavar="FILE", help=output, required=work is board_make)
@@ -218,7 +254,7 @@ def parser():
         return groups.add_parser(name, help=words, description=words).add_subparsers(required=True, metavar="COMMAND")
 
     group = pair("book", "make book.dat from text, or show one as text")
-    made = command(group, "make", book_make, "make book.dat from a TOML source", "the file to write (book.dat)")
+    made = command(group, "make", book_make, "make book.dat from a TOML source")
     made.add_argument("source", metavar="SOURCE.toml")
     made = command(group, "show", book_show, "show a book.dat as a source that makes the same bytes")
     made.add_argument("file", metavar="book.dat")
@@ -235,6 +271,7 @@ def parser():
     made.add_argument("--book", metavar="book.dat|SOURCE.toml", help="take Beneficiary Dates and names from this book")
     made.add_argument("--messages", metavar="FILE", help="fail where the output does not answer these message records")
     made.add_argument("--format", choices=claims_text.FORMATS, default="text")
+    made.add_argument("--only", choices=claims_text.ONLY, help="show these records alone")
     made = command(group, "check", claims_check, "see that claimrun's output answers each message, and is not cut")
     made.add_argument("messages", metavar="MESSAGES", help="the message records that were sent")
     made.add_argument("claims", metavar="CLAIMS", help="claimrun's output")
@@ -244,6 +281,7 @@ def parser():
     made = command(groups, "run", run, "make book and messages, run claimrun and show its claims")
     made.add_argument("source", metavar="SOURCE.toml")
     made.add_argument("--format", choices=claims_text.FORMATS, default="text")
+    made.add_argument("--only", choices=claims_text.ONLY, help="show these records alone")
     made.add_argument("--claimrun", metavar="PATH", help="the program (target/bin/claimrun)")
     made = command(groups, "board", board_make, "draw two transfers side by side on one page", "the page to write")
     made.add_argument("source", metavar="PAIR.toml")

@@ -6,6 +6,8 @@ import tempfile
 
 from .errors import Fault
 
+STANDARD = "-"
+
 
 def trouble(path, error):
     """A Fault for what the operating system said of a file."""
@@ -14,8 +16,15 @@ def trouble(path, error):
     return Fault(path, words.get(type(error).__name__, error.strerror or str(error)))
 
 
+def shown(path):
+    """A path as it is told."""
+    return "standard input" if path == STANDARD else path
+
+
 def read_bytes(path):
-    """The bytes of a file."""
+    """The bytes of a file, or of standard input where the path is -."""
+    if path == STANDARD:
+        return sys.stdin.buffer.read()
     try:
         with open(path, "rb") as file:
             return file.read()
@@ -30,7 +39,7 @@ def read_text(path):
         return data.decode("utf-8-sig")
     except UnicodeDecodeError as error:
         line = data.count(b"\n", 0, error.start) + 1
-        raise Fault(path, "byte %d is not UTF-8" % error.start, "text in UTF-8", line) from None
+        raise Fault(shown(path), "byte %d is not UTF-8" % error.start, "text in UTF-8", line) from None
 
 
 def apart(target, sources):
@@ -84,8 +93,8 @@ def write_parts(path, parts):
 
 
 def write(path, parts, sources=()):
-    """Writes pieces of bytes to the file, or to standard output where path is None."""
-    if path is None:
+    """Writes pieces of bytes to the file, or to standard output where path is None or -."""
+    if path is None or path == STANDARD:
         for part in parts:
             sys.stdout.buffer.write(part)
         sys.stdout.buffer.flush()

@@ -12,13 +12,13 @@ class Names:
     def __init__(self):
         self.accounts, self.securities = {}, {}
 
-    def account(self, number):
-        """An account's number and name, for tables."""
-        return self.label(self.accounts, number)
+    def account_label(self, number):
+        """An account's name, or its number, for tables. Names are given once each."""
+        return self.accounts.get(number) or str(number)
 
-    def security(self, number):
-        """A security's number and name, for tables."""
-        return self.label(self.securities, number)
+    def security_label(self, number):
+        """A security's name, or its number, for tables."""
+        return self.securities.get(number) or str(number)
 
     def account_name(self, number):
         """An account's name, for sentences."""
@@ -27,10 +27,6 @@ class Names:
     def security_name(self, number):
         """A security's name, for sentences."""
         return self.securities.get(number, "security %d" % number)
-
-    @staticmethod
-    def label(names, number):
-        return "%d %s" % (number, names[number]) if number in names else str(number)
 
 
 def checked(fields, key, taken):

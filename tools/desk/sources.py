@@ -223,7 +223,7 @@ class Source:
     """A TOML file."""
 
     def __init__(self, path):
-        self.path = path
+        self.path = files.shown(path)
         text = files.read_text(path)
         try:
             values = tomllib.loads(text, parse_float=decimal.Decimal)

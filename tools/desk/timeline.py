@@ -28,6 +28,7 @@ SHAPES = {
     "settlement": '<rect x="{left}" y="{top}" width="12" height="12" class="solid"/>',
     "record": '<path d="M{x} {top} L{right} {bottom} L{left} {bottom} Z" class="hollow"/>',
     "beneficiary": '<path d="M{x} {high} L{far} {y} L{x} {low} L{near} {y} Z" class="solid"/>',
+    "release": '<path d="M{left} {top} L{right} {y} L{left} {bottom} Z" class="solid"/>',
     "payment": '<circle cx="{x}" cy="{y}" r="6.5" class="hollow"/><circle cx="{x}" cy="{y}" r="2.5" class="solid"/>',
 }
 
@@ -70,12 +71,25 @@ class Scale:
                 if any(near in self.lines for near in self.days[max(place - 1, 0):place + 2])}
 
     def runs(self):
-        """Runs of days of one year, in order: whether the days have lines of their own, and the days."""
-        return [(full, list(days)) for (_, full), days in
-                groupby(self.days, lambda day: (day.year, day in self.full))]
+        """Runs of days of one year, in order: whether the days have lines of their own, and the days. Whole years without a mark that
+        follow each other are one run."""
+        found = []
+        for (year, full), days in groupby(self.days, lambda day: (day.year, day in self.full)):
+            days = list(days)
+            if found and is_empty_years(full, days) and is_empty_years(*found[-1]):
+                found[-1][1].extend(days)
+            else:
+                found.append((full, days))
+        return found
 
     def height(self, day):
         return LINE * self.lines.get(day, 1)
+
+
+def is_empty_years(full, days):
+    """Whether a run is one or more whole years without a mark."""
+    first, last = days[0], days[-1]
+    return not full and (first.month, first.day, last.month, last.day) == (1, 1, 12, 31)
 
 
 def gap_height(days):
@@ -87,6 +101,11 @@ def draw(number, title, events, scale):
     """The time line as inline SVG."""
     parts, y, year = [], MARGIN, None
     for full, days in scale.runs():
+        if is_empty_years(full, days):
+            parts += draw_years(days, y)
+            y += LINE * 1.5
+            year = days[-1].year
+            continue
         if days[0].year != year:
             year = days[0].year
             parts.append(date_text(year, y, "marked"))
@@ -141,3 +160,11 @@ def draw_gap(number, days, y, calendar):
     if at - y >= LINE:
         parts.append(date_text("days between", (y + at - LINE) / 2, "closed"))
     return parts
+
+
+def draw_years(days, y):
+    """Whole years without a mark, as one break."""
+    count = days[-1].year - days[0].year + 1
+    middle = CELL + CELL_WIDTH / 2
+    return ['<path d="M%g %g V%g" class="break"/>' % (middle, y, y + LINE * 1.5),
+            date_text("%d year%s" % (count, "" if count == 1 else "s"), y + LINE / 4, "closed")]

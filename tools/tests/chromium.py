@@ -7,9 +7,11 @@ import struct
 import subprocess
 import tempfile
 import zlib
+from html import escape
 
 PROGRAM = next(filter(None, map(shutil.which, ("chromium", "chromium-browser", "google-chrome", "google-chrome-stable"))), None)
 SECONDS = 60
+NARROWEST = 500         # Chromium's windows are at least so wide; a narrower page stands in a frame
 TRIES = 2
 
 # Measures the page as it comes and with its folds open. It stands in a copy of the page; the page itself has no script.
@@ -17,6 +19,17 @@ SCRIPT = """<script>
 function box(element) {
   const b = element.getBoundingClientRect();
   return {text: element.textContent.trim().slice(0, 60), left: b.left, right: b.right, top: b.top, bottom: b.bottom};
+}
+function light(colour) {
+  const part = colour.match(/[0-9.]+/g).map(Number).slice(0, 3).map(v => v / 255)
+    .map(v => v <= .03928 ? v / 12.92 : ((v + .055) / 1.055) ** 2.4);
+  return .2126 * part[0] + .7152 * part[1] + .0722 * part[2];
+}
+function contrast(element) {
+  const style = getComputedStyle(element);
+  const ink = light(element.closest('svg') ? style.fill : style.color);
+  const paper = light(getComputedStyle(document.body).backgroundColor);
+  return (Math.max(ink, paper) + .05) / (Math.min(ink, paper) + .05);
 }
 function measure() {
   const all = [...document.body.querySelectorAll('*')].filter(e => e.tagName != 'SCRIPT');
@@ -28,6 +41,7 @@ function measure() {
     blocks: all.filter(e => !e.closest('svg') && e.checkVisibility()).map(box),
     lines: [...document.querySelectorAll('svg')].map(
       s => ({box: box(s), texts: [...s.querySelectorAll('text')].map(box)})),
+    contrasts: all.filter(e => e.checkVisibility() && ['text', 'P', 'DT', 'DD', 'H1', 'H2', 'LI', 'TD', 'TH'].includes(e.tagName)).map(contrast),
     hidden: [...document.querySelectorAll('details p')].map(e => !e.checkVisibility({contentVisibilityAuto: true})),
     size: parseFloat(getComputedStyle(document.querySelector('svg text')).fontSize)
           * document.querySelector('svg').getBoundingClientRect().width
@@ -40,7 +54,7 @@ const open = measure();
 const told = document.createElement('pre');
 told.id = 'measured';
 told.textContent = JSON.stringify({closed: closed, open: open});
-document.body.appendChild(told);
+(window.parent === window ? document : parent.document).body.appendChild(told);
 </script>
 """
 
@@ -63,14 +77,17 @@ def run(page, *options):
             shutil.rmtree(folder, ignore_errors=True)
 
 
-def measures(page, copy, width):
+def measures(page, copy, width, *options):
     """The measures of a page in a window of this width."""
     with open(page, encoding="utf-8") as file:
         text = file.read()
+    text = text.replace("</body>", SCRIPT + "</body>")
+    if width < NARROWEST:
+        text = '<!DOCTYPE html><body><iframe style="width:%dpx;height:1200px;border:0" srcdoc="%s"></iframe></body>' % (width, escape(text))
     with open(copy, "w", encoding="utf-8") as file:
-        file.write(text.replace("</body>", SCRIPT + "</body>"))
-    dom = run(copy, "--window-size=%d,1200" % width, "--dump-dom").decode("utf-8")
-    told = re.search(r'<pre id="measured">(.*?)</pre>', dom, re.S)[1]
+        file.write(text)
+    dom = run(copy, "--window-size=%d,1200" % max(width, NARROWEST), *options, "--dump-dom").decode("utf-8")
+    told = re.findall(r'<pre id="measured">({.*?)</pre>', dom, re.S)[-1]
     for name, letter in (("lt", "<"), ("gt", ">"), ("amp", "&")):
         told = told.replace("&%s;" % name, letter)
     return json.loads(told)
@@ -78,7 +95,14 @@ def measures(page, copy, width):
 
 def screenshot(page, target, width, height):
     """A picture of the page as its width, height and rows."""
-    run(page, "--window-size=%d,%d" % (width, height), "--screenshot=" + target)
+    if width < NARROWEST:
+        with open(page, encoding="utf-8") as file:
+            framed = '<!DOCTYPE html><body style="margin:0"><iframe style="width:%dpx;height:%dpx;border:0" srcdoc="%s"></iframe></body>' % (
+                width, height, escape(file.read()))
+        page = target + ".html"
+        with open(page, "w", encoding="utf-8") as file:
+            file.write(framed)
+    run(page, "--window-size=%d,%d" % (max(width, NARROWEST), height), "--screenshot=" + target)
     with open(target, "rb") as file:
         return decode(file.read())
 

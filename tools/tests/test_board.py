@@ -10,7 +10,8 @@ import common
 from common import BOOK, EXAMPLES, PAIR, content
 
 WORKSHOP = os.path.join(EXAMPLES, "workshop-pair.toml")
-WIDTHS = (800, 1600)
+WIDTHS = (420, 800, 1280, 1600)
+TWO_ROWS = BOOK + PAIR.replace("settlement_day = 2023-04-04", "settlement_day = 2023-05-09")
 
 # Long names, many rows, several marks on one day, marks on closed days, a span of years.
 HARD = """title = "A pair with %s"
@@ -108,7 +109,7 @@ class Board(Pages):
             self.assertTrue(text.startswith('<!DOCTYPE html>\n<html lang="en">'))
             for word in ("<script", "http", "javascript", "<link", "<img", "@import", "src="):
                 self.assertNotIn(word, text)
-            self.assertEqual(set(re.findall(r"url\((.*?)\)", text)), {"#hatch-1", "#hatch-2"})
+            self.assertLessEqual(set(re.findall(r"url\((.*?)\)", text)), {"#hatch-%d" % number for number in (1, 2, 3, 4)})
             self.assertFalse([name for name, _ in page.attributes if name.startswith("on") or name == "href"])
             self.assertEqual(page.tags.count("h1"), 1)
             self.assertEqual(page.tags.count("h2"), 2)
@@ -116,7 +117,8 @@ class Board(Pages):
     def test_reads_without_colour(self):
         text = content(self.page(WORKSHOP)).decode("utf-8")
         for colour in re.findall(r"#([0-9a-f]{3}|[0-9a-f]{6})\b", text):
-            self.assertTrue(len(set(colour)) == 1, colour)
+            parts = colour if len(colour) == 3 else [colour[at:at + 2] for at in (0, 2, 4)]
+            self.assertEqual(len(set(parts)), 1, colour)
 
     def test_texts(self):
         page = self.parsed(WORKSHOP)
@@ -132,9 +134,30 @@ class Board(Pages):
         self.assertEqual(page.tags.count("details"), 2)
         self.assertNotIn("open", dict(page.attributes))
         for words in ("Nobody owes anything.", "Harbor Bank owes Orchard Trust", "$5,000.00 interest and $10,000.00 principal",
-                      "Beneficiary Date 2023-06-01 (row 0)", "Release date 2023-06-15, during the day"):
+                      "Beneficiary Date Thu 1 Jun 2023 (row 0)", "Release date Thu 15 Jun 2023, during the day",
+                      "Beneficiary Date Thu 1 Jun 2023: not claimed", "Beneficiary Date Thu 1 Jun 2023: claimed"):
             self.assertIn(words, page.folded)
             self.assertNotIn(words, page.words)
+        self.assertNotIn("Release date", page.words)
+
+    def test_facts_to_work_the_amount_out(self):
+        words = self.parsed(WORKSHOP).words
+        for fact in ("agency MBS, monthly", "for each dollar of par $0.005 interest, $0.01 principal"):
+            self.assertIn(fact, words)
+
+    def test_several_claims_are_a_table(self):
+        """One row for each claim, and no totals."""
+        page = self.parsed(TWO_ROWS)
+        self.assertEqual(page.tags.count("table"), 1)
+        self.assertEqual(page.tags.count("tr"), 3)
+        for words in ("First Bank owes Second Bank", "Sat 1 Apr 2023", "Mon 1 May 2023", "$1,000.00", "Wed 10 May 2023", "Mon 15 May 2023"):
+            self.assertIn(words, page.folded)
+        self.assertNotIn("$2,000.00", page.folded)
+
+    def test_dates_have_one_form(self):
+        for source in (WORKSHOP, TWO_ROWS):
+            page = self.parsed(source)
+            self.assertNotRegex(page.words + page.folded, "[0-9]{4}-[0-9]{2}-[0-9]{2}")
 
     def test_notices_and_refusals(self):
         source = (BOOK + PAIR).replace('interest = "0.005"', 'interest = "0.005"\nrestricted = [1]', 1)
@@ -182,6 +205,8 @@ contract_date = 2000-01-01
         page = self.parsed(source)
         self.assertIn("Fri 30 Dec", page.words)
         self.assertIn("2039", page.words)
+        self.assertIn("38 years", page.words)
+        self.assertNotIn("2020", page.words)
 
 
 @unittest.skipIf(chromium.PROGRAM is None, "Chromium is not installed")
@@ -209,20 +234,24 @@ class Seen(Pages):
 
     def side_by_side(self, found):
         """The two time lines stand side by side, each day beside itself."""
-        left, right = (line["box"] for line in found["lines"])
+        left, right = (line["box"] for line in found["lines"][:2])
         self.assertTrue(left["right"] <= right["left"] and left["top"] == right["top"])
-        days = [{text["text"]: text["top"] for text in line["texts"]} for line in found["lines"]]
-        self.assertEqual(days[0]["Wed 31 May"], days[1]["Wed 31 May"])
+        days = [{text["text"]: text["top"] for text in line["texts"]} for line in found["lines"][:2]]
+        shared = [day for day in days[0].keys() & days[1].keys() if re.fullmatch("[A-Z][a-z]{2} [0-9]+ [A-Z][a-z]{2}", day)]
+        self.assertGreater(len(shared), 5)
+        for day in shared:
+            self.assertEqual(days[0][day], days[1][day], day)
 
     def test_nothing_is_cut_off(self):
-        for source in (WORKSHOP, HARD):
+        for source in (WORKSHOP, HARD, TWO_ROWS):
             page = self.page(source)
             for width in WIDTHS:
                 with self.subTest(source=source[-40:], width=width):
                     found = chromium.measures(page, self.path("copy.html"), width)
                     self.judge(found["closed"], width)
                     self.judge(found["open"], width)
-                    self.side_by_side(found["closed"])
+                    if width > 640:
+                        self.side_by_side(found["closed"])
                     self.assertTrue(all(found["closed"]["hidden"]))
                     self.assertFalse(any(found["open"]["hidden"]))
 
@@ -230,7 +259,7 @@ class Seen(Pages):
         page = self.page(WORKSHOP)
         for width in WIDTHS:
             drawn, height, rows = chromium.screenshot(page, self.path("shot.png"), width, 1000)
-            self.assertEqual((drawn, height), (width, 1000))
+            self.assertEqual((drawn, height), (max(width, chromium.NARROWEST), 1000))
             self.assertGreater(len(set(rows)), 200)
 
     def test_printed(self):
@@ -239,6 +268,16 @@ class Seen(Pages):
         self.assertEqual(chromium.pages(page, self.path("closed.pdf")), 1)
         opened = self.file("open.html", content(page).replace(b"<details>", b"<details open>"))
         self.assertEqual(chromium.pages(opened, self.path("open.pdf")), 2)
+        self.assertEqual(chromium.pages(self.page(TWO_ROWS), self.path("two.pdf")), 1)
+
+    def test_dark(self):
+        """Where the system asks for dark pages, and where Chromium makes pages dark, letters stand out from what is behind them."""
+        page = self.page(TWO_ROWS)
+        for options in ((), ("--force-dark-mode",), ("--force-dark-mode", "--enable-features=WebContentsForceDark")):
+            found = chromium.measures(page, self.path("copy.html"), 1280, *options)
+            for contrast in found["open"]["contrasts"]:
+                self.assertGreaterEqual(contrast, 4.5, options)
+            self.assertGreater(len(found["open"]["contrasts"]), 50)
 
 
 if __name__ == "__main__":

@@ -147,13 +147,15 @@ restricted = [0, "Last Bank"]
                 dice.choice(("monthly", "quarterly", "semiannual", "annual")))
             source = self.file("s.toml", "opening_day = 2023-02-%02d\n%s%s[[message]]\nclose = 1\n" % (
                 dice.choice((1, 2, 3, 28)), security, rows))
-            self.assertIn(b"0 accepted: close", self.good("run", source))
+            self.assertIn(b"accepted: close", self.good("run", source))
 
-    def test_default_output_is_book_dat(self):
-        self.file("s.toml", BOOK)
-        run = self.command("book", "make", "s.toml")
-        self.assertEqual((run.returncode, run.stdout, run.stderr), (0, b"", b""))
-        self.assertEqual(content(self.path("book.dat")), content(CASE_BOOK))
+    def test_standard_input_and_output(self):
+        """Without -o, or with -, bytes go to standard output; a source that is - is standard input."""
+        source = self.file("s.toml", BOOK)
+        for args, given in (((source,), b""), ((source, "-o", "-"), b""), (("-",), BOOK.encode())):
+            self.assertEqual(self.good("book", "make", *args, given=given), content(CASE_BOOK))
+        self.assertIn("standard input:1: ", self.bad("book", "make", "-", given=b"opening_day = 1\n"))
+        self.assertEqual(self.good("book", "show", "-", given=content(CASE_BOOK)), self.good("book", "show", CASE_BOOK))
 
     def test_book_of_another_file(self):
         self.file("inner.toml", BOOK)

@@ -2,12 +2,14 @@
 import csv
 import io
 import json
+import re
 import struct
 import unittest
 
 import common
 from common import BOOK, CASE_BOOK, CASE_OUTPUT, content
-from desk import claims
+from desk import claims, claims_text
+from desk.names import Names
 
 OUTPUT = content(CASE_OUTPUT)
 
@@ -31,8 +33,8 @@ class Claims(common.Desk):
 
     def test_hex_example(self):
         lines = self.shown(OUTPUT).split("\n")
-        self.assertEqual(lines[1].split(), "1 claim fail 1 2 0 0 1 1,000.00 0.00 2023-04-17 during the day".split())
-        self.assertEqual(lines[2].split(), "1 answer 0 accepted".split())
+        self.assertEqual(lines[1].split(), "1 fail 1 1 2 0 row 0 1,000.00 0.00 2023-04-17 day".split())
+        self.assertEqual(lines[2].split(), "1 accepted".split())
         self.assertEqual(lines[3:], [""])
 
     def test_standard_input(self):
@@ -42,7 +44,7 @@ class Claims(common.Desk):
         self.assertNotIn("2023-04-01", self.shown(OUTPUT))
         self.assertIn(" 2023-04-01 ", self.shown(OUTPUT, "--book", CASE_BOOK))
         named = self.shown(OUTPUT, "--book", self.file("s.toml", BOOK))
-        for words in ("2023-04-01", "1 First Bank", "2 Second Bank", "0 Pool"):
+        for words in ("2023-04-01", " First Bank ", " Second Bank ", " Pool "):
             self.assertIn(words, named)
 
     def test_another_book(self):
@@ -59,27 +61,71 @@ class Claims(common.Desk):
     def test_columns_are_aligned(self):
         data = claim(payer=15, interest=1) + claim(interest=1_800_000_000_000, principal=2 ** 64 - 1) + answer(0)
         head, first, second = self.shown(data).split("\n")[:3]
-        self.assertEqual(head.index("interest $") + len("interest $"), first.index(" 0.01") + 5)
+        self.assertEqual(head.index("interest") + len("interest"), first.index(" 0.01") + 5)
         self.assertEqual(second.index("18,000,000,000.00") + 17, first.index(" 0.01") + 5)
         self.assertIn("184,467,440,737,095,516.15", second)
 
     def test_notices_with_their_reasons(self):
-        for outcome, reason in ((1, "both amounts are zero"), (2, "the payment redeems the security"),
-                                (3, "the payer's payment went to a non-interest-bearing account")):
+        for outcome, short, reason in ((1, "both zero", "both amounts are zero"), (2, "redeemed", "the payment redeems the security"),
+                                       (3, "restricted", "the payer's payment went to a non-interest-bearing account")):
             data = claim(3, outcome, transfer=0, release=0, slot=0) + answer(0)
             line = self.shown(data).split("\n")[1]
-            self.assertTrue(" notice  lending " in line and line.endswith("-             " + reason), line)
+            self.assertTrue(" loan " in line and line.endswith("  notice   " + short), line)
             self.assertEqual(self.objects(data)[0]["reason"], reason)
 
     def test_times(self):
-        for slot, time in ((1, "8:05"), (2, "8:45"), (3, "during the day")):
+        for slot, time in ((1, "8:05"), (2, "8:45"), (3, "day")):
             self.assertTrue(self.shown(claim(slot=slot) + answer(0)).split("\n")[1].endswith("  " + time))
 
     def test_every_answer(self):
         for number, meaning in claims.MEANINGS.items():
             line = self.shown(answer(number)).split("\n")[1]
-            self.assertIn("%d %s%s" % (number, "refused, " if number else "", meaning), line)
+            self.assertIn("  REFUSED %d, %s" % (number, meaning) if number else "  accepted", line)
             self.assertEqual(self.objects(answer(number))[0]["meaning"], meaning)
+
+    def test_refusals_are_counted_on_standard_error(self):
+        path = self.file("out.dat", answer(0) + answer(7) + claim() + answer(0) + answer(6))
+        self.assertEqual(self.call("claims", "show", path)[2], "claimdesk: 2 of 4 messages refused\n")
+        self.assertEqual(self.call("claims", "show", self.file("out.dat", OUTPUT))[2], "")
+
+    def test_only(self):
+        data = claim() + claim(3, 1, transfer=0, release=0, slot=0) + answer(0) + answer(7)
+        for only, kinds in (("claims", ["claim"]), ("notices", ["notice"]), ("refused", ["answer"])):
+            self.assertEqual([entry["record"] for entry in self.objects(data, "--only", only)], kinds)
+            lines = self.shown(data, "--only", only).split("\n")
+            self.assertEqual(len(lines), 3)
+        self.assertIn("REFUSED 7", lines[1])
+
+    def test_width_of_a_terminal(self):
+        """Names are cut where the terminal is narrow, and nothing is wider than it."""
+        wide = [len(line) for line in self.table(None)]
+        self.assertGreater(max(wide), 100)
+        for width in (100, 120):
+            lines = self.table(width)
+            self.assertLessEqual(max(map(len, lines)), width)
+            self.assertTrue(any("18,000,000,000.00" in line for line in lines))
+        self.assertIn("…", "".join(self.table(100)))
+
+    def table(self, width, colour=False):
+        """Claims between long names, as a table for a terminal."""
+        names = Names()
+        names.accounts = {1: "The First Bank of the Long Name", 2: "The Second Bank of the Long Name"}
+        names.securities = {0: "A pool with a name of its own"}
+        data = claim(interest=1_800_000_000_000) + answer(0) + answer(6)
+        view = claims_text.View(width, colour)
+        output = io.BytesIO(data)
+
+        def start():
+            output.seek(0)
+            return view.counted(claims_text.entries(claims.numbered(claims.records(output, "out")), None))
+
+        return "".join(claims_text.text(start, None, names, view)).split("\n")
+
+    def test_colour_is_never_the_only_sign(self):
+        plain, coloured = self.table(120), self.table(120, True)
+        self.assertEqual([re.sub("\033\\[[0-9]*m", "", line) for line in coloured], plain)
+        self.assertTrue(any("REFUSED 6" in line for line in plain))
+        self.assertNotEqual(plain, coloured)
 
     def test_messages_are_counted(self):
         found = self.objects(answer(0) + claim() + claim() + answer(0) + answer(6))
@@ -87,7 +133,7 @@ class Claims(common.Desk):
 
     def test_an_answer_about_the_book_has_no_message(self):
         self.assertEqual(self.objects(answer(3))[0]["message"], None)
-        self.assertIn("-  answer  3 refused, a table breaks a rule: the book", self.shown(answer(3)))
+        self.assertIn("-  REFUSED 3, a table breaks a rule: the book", self.shown(answer(3)))
 
     def test_json(self):
         self.assertEqual(self.objects(OUTPUT, "--book", CASE_BOOK), [
@@ -102,6 +148,23 @@ class Claims(common.Desk):
         self.assertEqual([row["record"] for row in rows], ["claim", "answer"])
         self.assertEqual((rows[0]["interest"], rows[0]["release_date"], rows[1]["meaning"]),
                          ("1000.00", "2023-04-17", "accepted"))
+
+    def test_fields_of_the_message(self):
+        """Columns of the message, a lending claim without a transfer, and no cell that a spreadsheet would run."""
+        source = self.file("m.toml", '[[message]]\nsender = 1\nreceiver = 2\nsecurity = 0\npar = 200_000\ncontract_date = 2023-03-15\n'
+                           'text2 = "=1+1"\n\n[[message]]\nclose = 1\n')
+        self.good("messages", "make", source, "-o", self.path("m.dat"))
+        data = OUTPUT + claim(3, transfer=0) + answer(0)
+        args = ("--messages", self.path("m.dat"), "--book", CASE_BOOK)
+        found = self.objects(data, *args)
+        self.assertEqual({key: found[1][key] for key in ("call", "code", "sender", "receiver", "market", "par", "contract_date", "text2")},
+                         {"call": "transfer", "code": "none", "sender": 1, "receiver": 2, "market": "secondary", "par": 200_000,
+                          "contract_date": "2023-03-15", "text2": "=1+1"})
+        self.assertNotIn("transfer", found[2])
+        self.assertEqual((found[3]["call"], found[3]["day"]), ("close", "2023-04-05"))
+        rows = list(csv.DictReader(io.StringIO(self.shown(data, "--format", "csv", *args))))
+        self.assertEqual((rows[1]["text2"], rows[2]["transfer"], rows[3]["day"]), ("'=1+1", "", "2023-04-05"))
+        self.assertIn("accepted: close, to 2023-04-05", self.shown(data, *args))
 
     def test_nothing_is_added_up(self):
         data = (claim(interest=1234) + answer(0)) * 2

@@ -30,13 +30,13 @@ class Examples(common.Desk):
     def claims(self, name):
         """The claims of an example by the free text of the message that they belong to."""
         records = json.loads(self.good("run", os.path.join(EXAMPLES, name), "--format", "json"))
-        calls = {record["message"]: record["call"] for record in records if record["record"] == "answer"}
+        calls = {record["message"]: record for record in records if record["record"] == "answer"}
         return calls, [record for record in records if record["record"] != "answer"]
 
     def test_attachment_2_fails(self):
         """Payer, payee, Beneficiary Date and release date of examples 1 to 7 are the memo's, with the year 2023."""
         calls, found = self.claims("attachment-2-fails.toml")
-        self.assertEqual([(calls[claim["message"]][-1], claim["payer_name"], claim["payee_name"], claim["beneficiary_date"],
+        self.assertEqual([(calls[claim["message"]]["text2"][-1], claim["payer_name"], claim["payee_name"], claim["beneficiary_date"],
                            claim["release_date"]) for claim in found], [
             ("2", "Bank Y/General", "Bank Z/Trust", "2023-04-01", "2023-04-17"),
             ("3", "Bank X/Dealer", "Bank Z/Dealer", "2023-04-01", "2023-04-21"),
@@ -64,22 +64,22 @@ class Examples(common.Desk):
 
     def test_busy_day_has_everything(self):
         calls, found = self.claims("busy-day.toml")
-        words = " ".join(calls.values())
-        for code in ("transfer", "SLST", "SLRV", "CLSL", "CLSR", "ADSL", "ADSR", "close", "other market"):
+        words = {call.get(key) for call in calls.values() for key in ("call", "code", "market")}
+        for code in ("transfer", "SLST", "SLRV", "CLSL", "CLSR", "ADSL", "ADSR", "close", "other"):
             self.assertIn(code, words)
         self.assertEqual({(claim["type"], claim["outcome"]) for claim in found},
                          {("fail", 0), ("fail", 3), ("lending", 0), ("lending", 1), ("lending", 2), ("lending", 3)})
         self.assertEqual({claim["time"] for claim in found if "time" in claim}, {"8:05", "8:45", "during the day"})
 
-    def readme_block(self, first):
-        """The block of README that begins with these words, without its indent."""
-        text = content(os.path.join(common.ROOT, "README.md")).decode("utf-8")
+    def readme_block(self, first, *place):
+        """The block of README, or of another document, that begins with these words, without its indent."""
+        text = content(os.path.join(common.ROOT, *(place or ("README.md",)))).decode("utf-8")
         lines = text[text.index("    " + first):].split("\n")
-        size = next(at for at, line in enumerate(lines) if line and not line.startswith("    "))
+        size = next((at for at, line in enumerate(lines) if line and not line.startswith("    ")), len(lines))
         return "".join(line[4:] + "\n" for line in lines[:size]).rstrip("\n") + "\n"
 
     def test_readme_shows_the_first_commands_output(self):
-        self.assertEqual(self.readme_block("message  "), content(os.path.join(STORED, "workshop.txt")).decode("utf-8"))
+        self.assertEqual(self.readme_block("msg  "), content(os.path.join(STORED, "workshop.txt")).decode("utf-8"))
 
     def test_readme_source_gives_the_claim_it_says(self):
         source = self.file("mine.toml", self.readme_block("opening_day"))
@@ -89,13 +89,18 @@ class Examples(common.Desk):
         words = "%s owes %s %s of interest, released on %s at %s" % tuple(said)
         self.assertIn(words, " ".join(content(os.path.join(common.ROOT, "README.md")).decode("utf-8").split()))
 
-    def test_readme_by_hand(self):
-        """The commands of README's section, in a copy of the layout."""
+    def test_manual_shows_lines_of_the_table(self):
+        stored = content(os.path.join(STORED, "workshop.txt")).decode("utf-8").split("\n")
+        for line in self.readme_block("msg  ", "docs", "DESK.md").rstrip("\n").split("\n"):
+            self.assertIn(line, stored)
+
+    def test_manual_by_hand(self):
+        """The commands of the manual's section, in a copy of the layout."""
         os.makedirs(self.path("target"))
         os.symlink(os.path.dirname(common.running.PROGRAM), self.path("target/bin"))
         for name in ("tools", "examples"):
             os.symlink(os.path.join(common.ROOT, name), self.path(name))
-        run = subprocess.run(["sh", "-e", "-c", self.readme_block("mkdir -p target/try")], cwd=self.folder,
+        run = subprocess.run(["sh", "-e", "-c", self.readme_block("mkdir -p target/try", "docs", "DESK.md")], cwd=self.folder,
                              capture_output=True, timeout=60)
         self.assertEqual((run.returncode, run.stderr), (0, b""))
         self.assertIn(b"5,000.00", run.stdout)
