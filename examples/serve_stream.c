@@ -38,7 +38,6 @@ int main(int count, char **arguments) {
         if (claim_tracker_write_answer(output, sizeof output, (struct claim_tracker_answer){opened.number}) != 0) return 1;
         return fwrite(output, 1, CLAIM_TRACKER_ANSWER_BYTES, stdout) != CLAIM_TRACKER_ANSWER_BYTES;
     }
-    if (sizeof output < CLAIM_TRACKER_RECORD_ROOM) return failed("the output buffer has no room for a record");
     struct claim_tracker_book book = opened.book;
     size_t held = 0;
     bool ended = false;
@@ -51,7 +50,8 @@ int main(int count, char **arguments) {
         held -= served.consumed;
         memmove(input, input + served.consumed, held);
         if (served.over) return 0;
-        if (served.consumed != 0 || served.written != 0) continue;
+        if (served.full && served.written == 0) return failed("the output buffer has no room for a record");
+        if (served.full) continue;
         if (ended) return 0;
         ssize_t got = read(STDIN_FILENO, input + held, sizeof input - held);
         if (got < 0) return failed("standard input");

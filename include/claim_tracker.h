@@ -261,13 +261,15 @@ struct claim_tracker_reply {
 };
 
 /* What a run of a stream answers: the number 1 to 4 that calendar, tables, book or balances meet, or 0; the book after it, how many bytes
-   of the input were worked, how many of the output were written, and whether a 5 has ended the stream. */
+   of the input were worked, how many of the output were written, whether a 5 has ended the stream, and whether the output is full: it has
+   no room for another record behind what was written. Not over and not full, all whole records of the input are worked. */
 struct claim_tracker_served {
     uint16_t number;
     struct claim_tracker_book book;
     size_t consumed;
     size_t written;
     bool over;
+    bool full;
 };
 
 /* The fields of a transfer, kind 1; its two lines of free text are apart. */
@@ -359,8 +361,10 @@ struct claim_tracker_reply claim_tracker_close_in(const uint32_t *calendar, size
 /* Serves a run of input: works its records one after the other, each with a claim buffer of 64 KiB, and writes for each its claims and then
    its answer. It stops at a record that is not whole yet, when the output has no room for another record (CLAIM_TRACKER_RECORD_ROOM bytes),
    or after a 5, which is the answer to what is no record, and, with ended, to the beginning of one. The caller writes out what was
-   written, hands over again the bytes that were not worked, with those that have arrived since, and ends once over is true. However the
-   input is cut, all that is written is the same. Numbers 1 to 4: nothing is worked or written, and the book given is returned. */
+   written and keeps the bytes that were not worked. Once over is true it ends. Where full is true it calls again with these bytes and
+   an empty output; where nothing was written either, the output is smaller than CLAIM_TRACKER_RECORD_ROOM and needs to grow. Else it
+   ends if ended was true, or calls again with these bytes and those that have arrived since. However the input is cut, all that is
+   written is the same. Numbers 1 to 4: nothing is worked or written, and the book given is returned. */
 CLAIM_TRACKER_CALL CLAIM_TRACKER_NONNULL
 struct claim_tracker_served claim_tracker_serve(const uint32_t *calendar, size_t calendar_words, const uint32_t *tables, size_t table_words,
                                                 struct claim_tracker_book book, uint64_t *balances, size_t balance_words,

@@ -172,12 +172,13 @@ class Reply(NamedTuple):
 
 class Served(NamedTuple):
     """What a run of a stream answers: the number 1 to 4 or 0, the book after it, how many bytes of the input were worked, how many of the
-    output were written, and whether a 5 has ended the stream."""
+    output were written, whether a 5 has ended the stream, and whether the output has no room for another record behind them."""
     number: Number
     book: Book
     consumed: int
     written: int
     over: bool
+    full: bool
 
 
 class Transfer(NamedTuple):
@@ -245,7 +246,7 @@ def _struct(form, *kinds):
 _BOOK = _struct(Book, _U32, _U32)
 _DONE = _struct(Done, _U16, _BOOK, _SIZE)
 _REPLY = _struct(Reply, _U16, _SIZE)
-_SERVED = _struct(Served, _U16, _BOOK, _SIZE, _SIZE, _BOOL)
+_SERVED = _struct(Served, _U16, _BOOK, _SIZE, _SIZE, _BOOL, _BOOL)
 _TRANSFER = _struct(Transfer, _U8, _U8, _U8, _U8, _U8, _U32)
 _CLAIM = _struct(Claim, _U8, _U8, _U8, _U8, _U8, _U8, _U32, _U64, _U64, _U32, _U8)
 _ANSWER = _struct(Answer, _U16)

@@ -111,6 +111,7 @@ static void serve(void) {
     free(input);
     book = served.book;
     printf("serve %u consumed %zu written %zu over %d", served.number, served.consumed, served.written, served.over);
+    printf(" full %d", served.full);
     print_left(served.written);
 }
 

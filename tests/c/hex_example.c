@@ -120,13 +120,20 @@ int main(void) {
     struct claim_tracker_served served =
         claim_tracker_serve(calendar, 480, tables, 1824, book, balances, 4096, records, sizeof records - 1, false, output, sizeof output);
     check("a run stops at a cut record", served.number == 0 && served.book.count == 1 && served.consumed == 141 && served.written == 41
-                                             && !served.over && memcmp(output, expected, sizeof expected) == 0);
+                                             && !served.over && !served.full && memcmp(output, expected, sizeof expected) == 0);
     served = claim_tracker_serve(calendar, 480, tables, 1824, served.book, balances, 4096, records + 141, 141, true, output, sizeof output);
-    check("and goes on with it", served.number == 0 && served.book.count == 2 && served.consumed == 141 && served.written == 41 && !served.over);
+    check("and goes on with it", served.number == 0 && served.book.count == 2 && served.consumed == 141 && served.written == 41
+                                     && !served.over && !served.full);
     served = claim_tracker_serve(calendar, 480, tables, 1824, served.book, balances, 4096, records, 140, true, output, sizeof output);
-    check("a record cut by the end gets 5", served.consumed == 0 && served.written == 6 && served.over && output[4] == 5);
+    check("a record cut by the end gets 5", served.consumed == 0 && served.written == 6 && served.over && !served.full && output[4] == 5);
     served = claim_tracker_serve(calendar, 480, tables, 1823, served.book, balances, 4096, records, 141, true, output, sizeof output);
-    check("a short table stops a run", served.number == 1 && served.consumed == 0 && served.written == 0 && !served.over);
+    check("a short table stops a run", served.number == 1 && served.consumed == 0 && served.written == 0 && !served.over && !served.full);
+    served = claim_tracker_serve(calendar, 480, tables, 1824, served.book, balances, 4096, records, sizeof records, true, output,
+                                 CLAIM_TRACKER_RECORD_ROOM);
+    check("a full output is told", served.consumed == 141 && served.written == 41 && !served.over && served.full);
+    served = claim_tracker_serve(calendar, 480, tables, 1824, served.book, balances, 4096, records, sizeof records, true, output,
+                                 CLAIM_TRACKER_RECORD_ROOM - 1);
+    check("and one that has no room at all", served.consumed == 0 && served.written == 0 && !served.over && served.full);
 
     fields.code = 1;
     fields.par = 15000;

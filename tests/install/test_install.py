@@ -1,4 +1,6 @@
 """tools/install: what stands where, programs built against it, the shared library's names, and that the installed programs work."""
+import argparse
+import json
 import os
 import re
 import shutil
@@ -9,6 +11,9 @@ import unittest
 sys.path.insert(0, os.path.join(os.path.dirname(os.path.dirname(os.path.abspath(__file__))), "c"))
 import building  # noqa: E402
 import declarations  # noqa: E402
+
+sys.path.insert(0, os.path.join(building.ROOT, "tools"))
+from desk import cli  # noqa: E402
 
 ROOT = building.ROOT
 COMMAND = os.path.join(ROOT, "tools", "install")
@@ -21,7 +26,8 @@ LINKS = {"lib/libclaim_tracker.so": "libclaim_tracker.so.1", "lib/libclaim_track
 PROGRAMS = {"bin/claimrun", "lib/claim_tracker/claimdesk", "lib/libclaim_tracker.so." + VERSION}
 TEXTS = {"include/claim_tracker.h", "lib/libclaim_tracker.a", "lib/pkgconfig/claim_tracker.pc", "lib/claim_tracker/VERSION",
          "lib/claim_tracker/python/claim_tracker.py", "share/man/man1/claimrun.1", "share/man/man1/claimdesk.1",
-         "share/man/man3/claim_tracker.3", "share/doc/claim_tracker/FORMATS.md", "share/doc/claim_tracker/CHANGELOG.md",
+         "share/man/man3/claim_tracker.3", "share/doc/claim_tracker/FORMATS.md", "share/doc/claim_tracker/DESK.md",
+         "share/doc/claim_tracker/CHANGELOG.md",
          "share/doc/claim_tracker/examples/first_claim.c", "share/doc/claim_tracker/examples/serve_stream.c"}
 DESK = {"lib/claim_tracker/desk/" + name for name in os.listdir(os.path.join(ROOT, "tools", "desk")) if name.endswith(".py")}
 
@@ -29,6 +35,15 @@ DESK = {"lib/claim_tracker/desk/" + name for name in os.listdir(os.path.join(ROO
 def files_below(folder):
     """All files and links below a folder, by their paths from it."""
     return {os.path.relpath(os.path.join(where, name), folder) for where, _, names in os.walk(folder) for name in names}
+
+
+def commands_of(parser, name=""):
+    """The commands of a parser, with their options."""
+    inner = [action for action in parser._actions if action.nargs == argparse.PARSER]
+    if not inner:
+        yield name, {option for action in parser._actions for option in action.option_strings}
+    for word, below in inner[0].choices.items() if inner else ():
+        yield from commands_of(below, (name + " " + word).strip())
 
 
 class Install(building.Library):
@@ -152,6 +167,25 @@ class Files(Install):
         self.assertEqual(files_below(prefix), TEXTS | PROGRAMS | DESK | set(LINKS))
         self.assertEqual(self.pc_lines(prefix)[0], "prefix=/opt/claims")
         self.assertEqual(self.run_text(os.path.join(prefix, "bin/claimdesk"), "--version"), "claimdesk %s\n" % VERSION)
+
+    def test_man_page_of_the_desk(self):
+        """It names each command with each of its options, and no other options."""
+        page = building.content("docs", "man", "claimdesk.1").replace("\\-", "-")
+        parts = {re.sub(r"\s+-.*", "", part.split("\n")[0]): part for part in re.split(r"(?m)^\.B claimdesk ", page)[1:]}
+        commands = dict(commands_of(cli.parser()))
+        self.assertEqual(sorted(name for name in parts if not name.startswith("-")), sorted(commands))
+        for name, options in commands.items():
+            text = parts[name].split("\n.br")[0].split("\n.SH")[0]
+            self.assertEqual(set(re.findall(r"(?<![\w-])--?[a-z]+", text)) - {"-o"}, options - {"-o", "-h", "--help", "--output"}, name)
+
+    def test_source_of_the_man_page(self):
+        """The source that it shows gives its claim."""
+        page = building.content("docs", "man", "claimdesk.1").replace("\\-", "-")
+        source = re.search(r"(?s)\n\.nf\n(opening_day.*?)\.fi\n", page)[1]
+        shown = self.run_text(os.path.join(ROOT, "tools", "claimdesk"), "run", self.file("source.toml", source), "--format", "json")
+        claims = [record for record in json.loads(shown) if record["record"] == "claim"]
+        self.assertEqual([(claim["payer_name"], claim["interest"], claim["release_date"]) for claim in claims],
+                         [("My Bank", "900.00", "2024-07-03")])
 
     def test_man_pages(self):
         """groff has no warning for them, and man finds them."""

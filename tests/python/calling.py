@@ -71,8 +71,8 @@ class Caller:
         buffer = bytearray(b"\xaa" * int(room))
         served = claim_tracker.serve(calendar, tables, self.book, balances, bytes_of(data), ended != "0", buffer)
         self.book = served.book
-        return "serve %d consumed %d written %d over %d %s" % (served.number, served.consumed, served.written, served.over,
-                                                              self.left(buffer, served.written))
+        return "serve %d consumed %d written %d over %d full %d %s" % (
+            served.number, served.consumed, served.written, served.over, served.full, self.left(buffer, served.written))
 
     def read(self, name, message):
         found = getattr(claim_tracker, name)(message)

@@ -130,7 +130,8 @@ class AgainstC(building.Library):
         self.assertGreaterEqual(numbers, {0, 5, 6, 7, 10, 132, 133, 135, 138, 139})
         for name, least in (("transfer", 200), ("close", 5)):
             self.assertGreater(sum(int(line.split()[3]) for line in found if line.startswith(name)), least)
-        self.assertTrue(any(" over 1 " in line for line in found) and any(" written 0 " in line for line in found))
+        for words in (" over 1 ", " over 0 full 0 ", " over 0 full 1 ", " written 0 over 0 full 1 "):
+            self.assertTrue(any(words in line for line in found), words)
 
     def test_edges(self):
         found = self.same(edge_calls())
@@ -161,7 +162,7 @@ class Calls(unittest.TestCase):
         self.assertEqual((own, output[:35]), (Book(20230404, 1), common.EXPECTED[:35]))
         output = bytearray(claim_tracker.RECORD_ROOM)
         served = claim_tracker.serve(CALENDAR, TABLES, Book(20230404), balances, message, False, output)
-        self.assertEqual((served.number, served.book, served.consumed, served.written, served.over), (0, Book(20230404, 1), 141, 41, False))
+        self.assertEqual(served, (0, Book(20230404, 1), 141, 41, False, True))
         self.assertEqual(bytes(output[:41]), common.EXPECTED)
 
     def test_streams(self):
@@ -187,7 +188,7 @@ class Calls(unittest.TestCase):
             book, held, found = served.book, held[served.consumed:], found + output[:served.written]
             if served.over:
                 return found
-            if served.consumed or served.written:
+            if served.full:
                 continue
             if ended:
                 return found

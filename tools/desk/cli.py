@@ -282,10 +282,10 @@ def parser():
     made.add_argument("source", metavar="SOURCE.toml")
     made.add_argument("--format", choices=claims_text.FORMATS, default="text")
     made.add_argument("--only", choices=claims_text.ONLY, help="show these records alone")
-    made.add_argument("--claimrun", metavar="PATH", help="the program (target/bin/claimrun)")
+    made.add_argument("--claimrun", metavar="PATH", help="the program, where it is not the one built or installed with the desk")
     made = command(groups, "board", board_make, "draw two transfers side by side on one page", "the page to write")
     made.add_argument("source", metavar="PAIR.toml")
-    made.add_argument("--claimrun", metavar="PATH", help="the program (target/bin/claimrun)")
+    made.add_argument("--claimrun", metavar="PATH", help="the program, where it is not the one built or installed with the desk")
     return top
 
 
