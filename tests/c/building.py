@@ -25,23 +25,26 @@ def content(*names):
 
 
 @functools.cache
-def compilers(words):
-    """The compilers by these names that are installed; the first one must be, and one that is missing is told once."""
-    found = [word for word in words if shutil.which(word)]
-    for word in words:
-        if word not in found:
-            print("%s is not installed: not tried with it" % word, file=sys.stderr)
-    if words[0] not in found:
-        raise AssertionError("no %s" % words[0])
-    return found
+def is_installed(tool, otherwise):
+    """Whether a tool is installed; what is done otherwise is told once."""
+    if not shutil.which(tool):
+        print("%s is not installed: %s" % (tool, otherwise), file=sys.stderr)
+    return shutil.which(tool) is not None
+
+
+def compilers(needed, other):
+    """The compilers to try: one that must be installed, and another that may be."""
+    if not shutil.which(needed):
+        raise AssertionError("%s is not installed" % needed)
+    return [needed] + [other] * is_installed(other, "only %s is tried" % needed)
 
 
 def c_compilers():
-    return compilers(("gcc", "clang"))
+    return compilers("gcc", "clang")
 
 
 def cxx_compilers():
-    return compilers(("g++", "clang++"))
+    return compilers("g++", "clang++")
 
 
 def compiled(compiler, *words):

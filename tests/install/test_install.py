@@ -193,13 +193,11 @@ class Files(Install):
         self.assertEqual(len(pages), 3)
         for page in pages:
             self.assertRegex(building.content(page), r'(?m)^\.TH \w+ [13] "" "claim_tracker %s" ' % re.escape(VERSION))
-        if not shutil.which("groff"):
-            print("groff is not installed: the man pages are not laid out", file=sys.stderr)
+        if not building.is_installed("groff", "the man pages are not laid out"):
             return
         for page in pages:
             self.assertEqual(self.run_text("groff", "-man", "-ww", "-z", "-Tutf8", page), "")
-        if not shutil.which("man"):
-            print("man is not installed: the man pages are not looked up", file=sys.stderr)
+        if not building.is_installed("man", "the man pages are not looked up"):
             return
         manuals = os.path.join(self.prefix(), "share/man")
         plain = os.environ | {"MANWIDTH": "120", "LC_ALL": "C"}
@@ -218,8 +216,7 @@ class Building(Install):
                 if match := re.match(r"(\w+)\s*[=:]\s*(.*)", line):
                     values[match[1]] = re.sub(r"\$\{(\w+)\}", lambda name: values[name[1]], match[2])
         read = [word for key in wanted for word in values[key].split()]
-        if not shutil.which("pkg-config"):
-            print("pkg-config is not installed: its file is read by the test alone", file=sys.stderr)
+        if not building.is_installed("pkg-config", "its file is read by the test alone"):
             return read
         options = [{"Cflags": "--cflags", "Libs": "--libs", "Version": "--modversion", "pythondir": "--variable=pythondir"}[key]
                    for key in wanted]
