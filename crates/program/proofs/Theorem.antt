@@ -21,7 +21,7 @@ use Rattle.stream.proofs.Theorem.{Sound, opening-sound, answered}
 use Rattle.book_file.specs.BookFile.{calendarIn, tablesIn, dayIn}
 use Rattle.program.specs.Claimrun.{BookDat, missing, holds, noBalances, fileNumber, writtenFor, claimrunBytes}
 use Rattle.program.specs.Steps.{Beginning, refusedHeld, openHeld, openingFor, opening, begins, Holding, holding, pending, toWrite}
-use Rattle.program.specs.Statement.{handed, atFirst, Taken, AllKeep, readBy, writtenBy, atLast, still, Writes, EveryClaimrun}
+use Rattle.program.specs.Statement.{handed, atFirst, Taken, AllKeep, readBy, writtenBy, atLast, still, Writes, EveryClaimrun, EveryLoop}
 use Rattle.program.proofs.Steps.{Good, step-good, step-works}
 
 -- ---- the beginning
@@ -154,3 +154,7 @@ every-claimrun file calendar tables output input b e steps k =
     writes (b .calendar) (b .tables) (claimrunBytes file) file (readBy steps) (writtenBy (atFirst b input) steps) (atLast (atFirst b input) steps) refl
     (steps-good (b .calendar) (b .tables) (claimrunBytes file) steps [] (toWrite (atFirst b input)) (atFirst b input)
     (subst (Starts (claimrunBytes file) input) (sym e) (first-good input calendar tables output file)) k [] refl)
+
+pub every-loop : EveryLoop
+every-loop file calendar tables output input held balances input′ r =
+    every-claimrun file calendar tables output input (begins (handed file) calendar tables noBalances output) refl (r .steps) (r .keep)

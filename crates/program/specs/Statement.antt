@@ -95,3 +95,11 @@ pub record Ran (calendar tables : List ℕ) (first : Holding) (held : Held) (bal
 -- The same from a beginning on.
 abbrev pub RanBook : Beginning → List ℕ → Held → List ℕ → List ℕ → Type 0
 RanBook b input held balances input′ = Ran (b .calendar) (b .tables) (atFirst b input) held balances input′
+
+-- So what the loop holds at its end is what claimrunBytes says, with the bytes read and written by its steps.
+abbrev pub EveryLoop : Type 0
+EveryLoop = (file : BookDat) (calendar tables output input : List ℕ) (held : Held) (balances input′ : List ℕ)
+    → (r : RanBook (begins (handed file) calendar tables noBalances output) input held balances input′)
+    → Writes file (begins (handed file) calendar tables noBalances output .calendar) (begins (handed file) calendar tables noBalances output .tables)
+    (readBy (r .steps)) (writtenBy (atFirst (begins (handed file) calendar tables noBalances output) input) (r .steps))
+    (atLast (atFirst (begins (handed file) calendar tables noBalances output) input) (r .steps))
