@@ -106,6 +106,24 @@ ends =
     && sameHolding r 20000101 0 [] (answered 4) false true false
     && sameHolding s 20000101 0 [] [] false true false
 
+-- a loan of 50,000 that account 1 starts with account 2 and the return of 20,000, each with a read of its own, then a close whose first
+-- three bytes come alone
+loaned : ℕ → ℕ → ℕ → ℕ → ℕ → List ℕ
+loaned sender receiver code low high = (139 ∷ 0 ∷ 1 ∷ 0 ∷ sender ∷ receiver ∷ 0 ∷ 0 ∷ code ∷ low ∷ high ∷ 0 ∷ 0 ∷ []) ++ replicate 128 32
+
+kept : Bool
+kept =
+    let a = reading first (loaned 1 2 1 80 195) in
+    let b = reading a [] in
+    let c = reading b (loaned 2 1 3 32 78) in
+    let d = reading c [] in
+    let e = reading d (take 3 closing) in
+    let f = reading e (drop 3 closing) in
+    sameHolding a 20230404 1 [] accepted false false false
+    && sameHolding c 20230404 2 [] accepted false false false
+    && sameHolding e 20230404 2 (take 3 closing) [] false false true
+    && sameHolding f 20230405 2 [] accepted false false false
+
 -- ---- the theorems
 
 unfoldable whole : ℕ
@@ -113,7 +131,7 @@ unfolding computed wordBytes bookOn answered message example five bytesOf put la
 whole = 0
 
 unfoldable stepping : ℕ
-unfolding refusedHeld openHeld openingFor opening begins holding pending toWrite hasEnded isFull isOver heldAfter servedIn afterServing resting stepped atFirst sameFlag sameHolding reading first
+unfolding refusedHeld openHeld openingFor opening begins holding pending toWrite hasEnded isFull isOver heldAfter servedIn afterServing resting stepped atFirst sameFlag sameHolding reading first loaned
 stepping = 0
 
 books-hold : books ≡ true
@@ -127,3 +145,7 @@ streams-hold = refl
 steps-hold : steps && ends ≡ true
 unfolding whole stepping steps ends
 steps-hold = refl
+
+kept-holds : kept ≡ true
+unfolding whole stepping kept
+kept-holds = refl
