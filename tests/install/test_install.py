@@ -160,12 +160,12 @@ class Files(Install):
 
     def test_destdir(self):
         """All files go below DESTDIR, and name the prefix alone."""
-        run = self.install("/opt/claims", DESTDIR=self.path("packed here"))
+        run = self.install("/claims", DESTDIR=self.path("packed here"))
         self.assertEqual((run.returncode, run.stderr), (0, ""))
-        self.assertEqual(os.listdir(self.path("packed here")), ["opt"])
-        prefix = self.path("packed here/opt/claims")
+        self.assertEqual(os.listdir(self.path("packed here")), ["claims"])
+        prefix = self.path("packed here/claims")
         self.assertEqual(files_below(prefix), TEXTS | PROGRAMS | DESK | set(LINKS))
-        self.assertEqual(self.pc_lines(prefix)[0], "prefix=/opt/claims")
+        self.assertEqual(self.pc_lines(prefix)[0], "prefix=/claims")
         self.assertEqual(self.run_text(os.path.join(prefix, "bin/claimdesk"), "--version"), "claimdesk %s\n" % VERSION)
 
     def test_man_page_of_the_desk(self):

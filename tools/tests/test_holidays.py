@@ -6,8 +6,8 @@ from common import Desk
 
 from desk import dates, holidays
 
-# As the Reserve Banks publish them: 2023 to 2027, and years before and after the newest holiday.
-PUBLISHED = {
+# Written out year by year, not computed; years before and after the newest holiday, and with holidays on Saturdays and Sundays.
+WRITTEN_OUT = {
     2000: "01-01 01-17 02-21 05-29 07-04 09-04 10-09 11-11 11-23 12-25",
     2005: "01-01 01-17 02-21 05-30 07-04 09-05 10-10 11-11 11-24 12-26",
     2021: "01-01 01-18 02-15 05-31 07-05 09-06 10-11 11-11 11-25 12-25",
@@ -21,8 +21,8 @@ PUBLISHED = {
 
 
 class Holidays(Desk):
-    def test_published_years(self):
-        for year, days in PUBLISHED.items():
+    def test_years_written_out(self):
+        for year, days in WRITTEN_OUT.items():
             with self.subTest(year):
                 self.assertEqual(" ".join(day.strftime("%m-%d") for day in holidays.of_year(year)), days)
 
