@@ -1,15 +1,6 @@
--- What the flags after a step say, and where its counts lie.
-use mathlib.Core.Path.{_≡_, refl, sym, ap, _∙_}
+-- What the flags after a step say of each other.
+use mathlib.Core.Path.{_≡_, refl, sym}
 use mathlib.Core.Bool.{Bool, true, false, not, _&&_, _||_, true≢false}
-use mathlib.Core.List.{List, [], _++_, append-nil}
-use Prim.Native.Nat.{ℕ, _+_, _-_, _≤_, _<_}
-use native.Mathlib.Omega.{arith}
-use lib.Dec.{eqb, ltb}
-use lib.ListN.{length, take, drop, length-take, length-drop}
-use lib.Seq.{take-at, length-take-le}
-use Rattle.lists.specs.Put.{put, put-start, put-length}
-
--- ---- flags
 
 -- not over: no 5
 pub not-over : (five ended full : Bool) → five || (ended && not full) ≡ false → five ≡ false
@@ -45,9 +36,3 @@ over-ended false false full f q = absurd (true≢false (sym q))
 pub is-false : (b : Bool) → (b ≡ true → ⊥) → b ≡ false
 is-false true n = absurd (n refl)
 is-false false n = refl
-
--- ---- the input buffer
-
--- the bytes not worked stand at its start
-pub moved : (input rest : List ℕ) → take (length rest) (put input 0 rest) ≡ rest
-moved input rest = ap (take (length rest)) (put-start input rest) ∙ take-at rest (drop (length rest) input) (length rest) refl

@@ -3,7 +3,7 @@
 use mathlib.Core.Path.{_≡_, refl}
 use mathlib.Core.Bool.{Bool, true, false, cond, not, _&&_}
 use mathlib.Core.List.{List, [], _∷_, _++_}
-use Prim.Native.Nat.{ℕ, zero, suc, _+_}
+use Prim.Native.Nat.{ℕ}
 use lib.Dec.{eqb}
 use lib.ListN.{length, replicate, take, drop, set}
 use Rattle.lists.specs.Numbers.{bytesOf}
@@ -19,9 +19,8 @@ use Rattle.stream.specs.Serving.{isFull, leavesFor, leaves}
 use Rattle.stream.specs.Statement.{ledgerBytes}
 use Rattle.stream.proofs.Rows.{computed, message, closing, example, accepted, five, sameBytes}
 use Rattle.book_file.specs.BookFile.{wordsIn, calendarIn, tablesIn, dayIn}
-use Rattle.program.specs.declared.Held.{Held}
 use Rattle.program.specs.Claimrun.{missing, holds, noBalances, fileNumber, writtenFor, claimrunBytes}
-use Rattle.program.specs.Steps.{Beginning, refusedHeld, openHeld, openingFor, opening, begins, Holding, holding, pending, toWrite, hasEnded, isOver, heldAfter, servedIn, afterServing, resting, stepped}
+use Rattle.program.specs.Steps.{refusedHeld, openHeld, openingFor, opening, begins, Holding, holding, pending, toWrite, hasEnded, isOver, heldAfter, servedIn, afterServing, resting, stepped}
 use Rattle.program.specs.Statement.{atFirst}
 
 -- ---- books

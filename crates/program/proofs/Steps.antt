@@ -1,30 +1,26 @@
 -- What one step keeps: the bytes written and those still to be written are the stream's, whatever follows.
 use mathlib.Core.Path.{_≡_, refl, sym, ap, _∙_, subst}
 use mathlib.Core.Bool.{Bool, true, false, cond, not, _&&_, _||_, true≢false}
-use mathlib.Core.List.{List, [], _∷_, _++_, append-assoc, append-nil}
-use Prim.Native.Nat.{ℕ, zero, suc, _+_, _-_, _≤_, _<_}
+use mathlib.Core.List.{List, [], _++_, append-assoc, append-nil}
+use Prim.Native.Nat.{ℕ, _+_, _-_, _≤_, _<_}
 use native.Mathlib.Omega.{arith}
-use lib.Dec.{eqb, ltb}
-use lib.ListN.{length, take, drop, length-take, length-drop, length-append}
+use lib.ListN.{length, take, drop, length-drop}
 use lib.Seq.{length-take-le}
 use borrow.Author.Tests.{ltb-false, ltb-true}
 use Rattle.lists.specs.Tests.{cond-true, cond-false}
 use Rattle.lists.specs.First.{firstOf}
 use Rattle.lists.specs.Put.{put}
-use Rattle.book.specs.declared.Book.{Book}
 use Rattle.book.specs.Soundness.{bookCauses}
-use Rattle.stream.specs.declared.Next.{Next}
 use Rattle.stream.specs.declared.Next.the-variants.{Waiting}
 use Rattle.stream.specs.Stream.{next, streamBytes}
-use Rattle.stream.specs.Serving.{Serving, serving, isFull, Leaves, leavesFor, leaves}
+use Rattle.stream.specs.Serving.{Serving, serving, isFull, leavesFor, leaves}
 use Rattle.stream.proofs.Headers.{waiting-end}
 use Rattle.stream.proofs.Cuts as cuts
 use Rattle.stream.proofs.Stops.{serving-stops, serving-works}
 use Rattle.stream.proofs.ServedRuns.{leaves-sound, written-bytes}
-use Rattle.program.specs.declared.Held.{Held}
 use Rattle.program.specs.Steps.{Holding, holding, pending, toWrite, hasEnded, isOver, heldAfter, servedIn, afterServing, resting, stepped}
 use Rattle.program.specs.Statement.{Taken, Keeps, still}
-use Rattle.program.proofs.Flags.{not-over, not-ended, asks-open, rests-full, over-ended, is-false, moved}
+use Rattle.program.proofs.Flags.{not-over, not-ended, asks-open, rests-full, over-ended, is-false}
 
 -- ---- what a state keeps
 
@@ -128,7 +124,7 @@ module _ {calendar tables : List ℕ} {all : List ℕ → List ℕ} {input writt
     left-is : pending (x .after) ≡ rest
     unfolding pending
     left-is =
-        ap pending ran ∙ ap (λ (n : ℕ). take n (put (x .input) 0 rest)) (sym rest-length) ∙ moved (x .input) rest
+        ap pending ran ∙ ap (λ (n : ℕ). take n (put (x .input) 0 rest)) (sym rest-length) ∙ written-bytes (x .input) rest
 
     wrote : toWrite (x .after) ≡ r .bytes
     unfolding toWrite

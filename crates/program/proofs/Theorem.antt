@@ -2,17 +2,17 @@
 use mathlib.Core.Path.{_≡_, refl, sym, ap, _∙_, subst}
 use mathlib.Core.Bool.{Bool, true, false, cond, true≢false}
 use mathlib.Core.List.{List, [], _∷_, _++_, append-assoc, append-nil}
-use Prim.Native.Nat.{ℕ, zero, suc, _+_, _≤_, _<_}
+use Prim.Native.Nat.{ℕ, zero, suc}
 use native.Mathlib.Omega.{arith}
 use lib.Dec.{eqb}
-use lib.ListN.{length, take, drop, length-take}
+use lib.ListN.{length, take, length-take}
 use lib.Seq.{take-all}
 use borrow.Author.Tests.{eqb-true, eqb-false, eq-eqb, ne-eqb}
 use Rattle.lists.specs.Tests.{cond-true, cond-false}
 use Rattle.lists.specs.Put.{put}
 use Rattle.history.specs.Causes.{openingNumber}
 use Rattle.history.specs.Results.{openedFor, opened}
-use Rattle.stream.specs.Stream.{answerBytes, streamBytes}
+use Rattle.stream.specs.Stream.{answerBytes}
 use Rattle.stream.specs.Statement.{begun, ledgerBytes}
 use Rattle.stream.proofs.Headers.{next-empty, waiting-short}
 use Rattle.stream.proofs.Records.{answer-length}

@@ -6,7 +6,7 @@
 -- the bytes left are fewer than a record has, so that a buffer of 141 bytes has room for a read. A step that neither ends the run nor asks
 -- for input leaves fewer bytes, so the steps between two reads, and those after the input has ended, come to an end.
 use mathlib.Core.Path.{_≡_}
-use mathlib.Core.Bool.{Bool, cond, true, false}
+use mathlib.Core.Bool.{cond, true, false}
 use mathlib.Core.List.{List, [], _∷_, _++_}
 use Prim.Native.Nat.{ℕ, _+_, _≤_, _<_}
 use lib.ListN.{length, take}

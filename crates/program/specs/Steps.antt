@@ -1,7 +1,7 @@
 -- What claimrun does between a read and a write. It begins by judging book.dat and opening the book; a step works what was read into the
 -- output. Between a write and the next read it holds its last answer, the balances and the two buffers.
 use mathlib.Core.Bool.{Bool, cond, not, true, false, _&&_, _||_}
-use mathlib.Core.List.{List, []}
+use mathlib.Core.List.{List}
 use Prim.Native.Nat.{ℕ, zero, suc, _+_, _-_}
 use lib.Dec.{eqb}
 use lib.ListN.{length, take, drop}

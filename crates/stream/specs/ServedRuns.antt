@@ -8,7 +8,7 @@ use Prim.Native.Nat.{ℕ}
 use lib.ListN.{length, take, drop}
 use Rattle.lists.specs.First.{firstOf}
 use Rattle.book.specs.Soundness.{bookCauses}
-use Rattle.history.specs.Results.{Opened, opened}
+use Rattle.history.specs.Results.{opened}
 use Rattle.stream.specs.declared.Served.{Served}
 use Rattle.stream.specs.declared.Next.the-variants.{Waiting}
 use Rattle.stream.specs.Stream.{next}
