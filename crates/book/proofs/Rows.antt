@@ -6,17 +6,14 @@ use mathlib.Core.List.{List, [], _∷_}
 use Prim.Native.Nat.{ℕ, _+_, _*_}
 use lib.Dec.{eqb}
 use lib.ListN.{getD, replicate, set}
-use Rattle.lists.specs.Tests.{below}
 use Rattle.lists.specs.All.{all}
 use Rattle.lists.specs.First.{firstOf}
-use Rattle.days.specs.Days.{leapDay, monthLength, isDate, wordOf, dateOf, lengthOf, bitOn, badFrom, badCalendar, isOpen, lowestFrom, seekFrom, openAt, openAfter, highestBelow, lastBelow, lastOpen}
-use Rattle.days.specs.Weekdays.{isWeekday, weekdayWord, weekdaysFrom, weekdays}
+use Rattle.days.specs.Weekdays.{weekdays}
 use Rattle.records.specs.declared.Transfer.{Transfer}
-use Rattle.securities.specs.Securities.{securityOf, typeOf, frequencyOf, rowOf, rowsFrom, rowsOf, isEmpty, goodRow, goodRows, goodSecurity, goodTables}
 use Rattle.securities.specs.Cases.{caseTables}
-use Rattle.book.specs.Book.{word, position, balanceAt, layout}
-use Rattle.book.specs.Loans.{increasing, decreasing, bySender, byReceiver, changeOf, changed, aboveBalance, pastLimit}
-use Rattle.book.specs.Soundness.{wrongLength, badDay, goodBalance, goodBalancesFrom, badBalances, tableCauses, bookCauses, openingCauses}
+use Rattle.book.specs.Loans.{changeOf, changed, aboveBalance, pastLimit}
+use Rattle.book.specs.Soundness.{bookCauses, openingCauses}
+use Rattle.book.proofs.Opened.{openedBook}
 
 -- ---- loans
 
@@ -95,5 +92,5 @@ judged =
     && eqb (firstOf (openingCauses weekdays caseTables (set zeros 0 1) 20230401)) 4
 
 rows-hold : all holds rows && judged ≡ true
-unfolding held sent rows flag holds number zeros judged below all firstOf leapDay monthLength isDate wordOf dateOf lengthOf bitOn badFrom badCalendar isOpen lowestFrom seekFrom openAt openAfter highestBelow lastBelow lastOpen isWeekday weekdayWord weekdaysFrom weekdays securityOf typeOf frequencyOf rowOf rowsFrom rowsOf isEmpty goodRow goodRows goodSecurity goodTables caseTables word position balanceAt layout increasing decreasing bySender byReceiver changeOf changed aboveBalance pastLimit wrongLength badDay goodBalance goodBalancesFrom badBalances tableCauses bookCauses openingCauses
+unfolding openedBook held sent rows flag holds number zeros judged
 rows-hold = refl

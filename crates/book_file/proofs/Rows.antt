@@ -4,8 +4,8 @@ use mathlib.Core.Path.{_≡_, refl}
 use mathlib.Core.List.{List, [], _∷_, _++_}
 use Prim.Native.Nat.{ℕ}
 use lib.ListN.{replicate}
-use Rattle.lists.specs.Numbers.{numberOf}
-use Rattle.book_file.specs.BookFile.{wordsIn, calendarIn, tablesIn, dayIn}
+use Rattle.book_file.specs.BookFile.{calendarIn, tablesIn, dayIn}
+use Rattle.book_file.proofs.Opened.{openedBookFile}
 
 -- 9,220 bytes
 bytes : List ℕ
@@ -22,5 +22,5 @@ record Loaded (calendar tables : List ℕ) (day : ℕ) : Type 0 where
   opening-day : day ≡ 20230404
 
 row-holds : Loaded (calendarIn bytes) (tablesIn bytes) (dayIn bytes)
-unfolding bytes wordsIn calendarIn tablesIn dayIn numberOf
+unfolding openedBookFile bytes
 row-holds = record { calendar-words = refl; table-words = refl; opening-day = refl }

@@ -1,3 +1,4 @@
+pub mod Opened
 pub mod Eligible
 pub mod Outcomes
 pub mod Crossed

@@ -11,7 +11,7 @@ use Rattle.records.specs.MessageRecords.{claimKind, claimValues, size, Writing,
 use Rattle.records.proofs.Answers.{stored-record}
 use Rattle.securities.specs.Securities.{rowOf}
 use Rattle.securities.proofs.Checks.{type-word}
-use Rattle.claims.specs.Amounts.{centsOn, amount, outcomeOf, releaseOf, slotOf, claimOn}
+use Rattle.claims.specs.Amounts.{ofInterest, ofPrincipal, centsFor, factorFor, amount, outcomeOf, releaseOf, slotOf, claimOn}
 use Rattle.claims.specs.Written.{claimBytes}
 use Rattle.claims.specs.Passes.{claim-length}
 
@@ -19,7 +19,7 @@ use Rattle.claims.specs.Passes.{claim-length}
 
 module _ (calendar tables row : List ℕ) (day number security payee payer par claimType index : ℕ) where
   pub made : {interest principal : Cents} {outcome release slot : ℕ}
-      → interest .0 ≡ centsOn par (getD row 3 0) → principal .0 ≡ centsOn par (getD row 4 0)
+      → interest .0 ≡ centsFor ofInterest par (getD row 3 0) → principal .0 ≡ centsFor ofPrincipal par (getD row 4 0)
       → outcome ≡ outcomeOf claimType payer (rowOf index row) (interest .0) (principal .0)
       → release ≡ releaseOf calendar claimType day (rowOf index row) outcome
       → slot ≡ slotOf (getD tables (114 * security) 0) claimType day (rowOf index row) outcome
@@ -38,7 +38,7 @@ module _ (calendar tables row : List ℕ) (day number security payee payer par c
         slot = slot;
       })
       (claimOn calendar tables day number (record { security = security; payee = payee; payer = payer }) par claimType (rowOf index row))
-  unfolding claimOn amount rowOf
+  unfolding claimOn amount factorFor rowOf
   made i p o r s = rw (← type-word tables security, ← i, ← p, ← o, ← r, ← s)
 
 -- ---- the record

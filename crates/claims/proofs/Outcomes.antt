@@ -10,14 +10,16 @@ use borrow.Author.Tests.{eq-eqb, ne-eqb, le-leb, lt-leb}
 use Rattle.days.specs.Days.{bitOn, openAfter, openFrom}
 use Rattle.records.specs.declared.Claim.{Claim}
 use Rattle.securities.specs.Securities.{securityOf, typeOf, Row}
-use Rattle.claims.specs.Amounts.{centsOn, amount, outcomeOf, isLate, releaseOf, isEarly, slotOf, Parties, claimOn}
+use Rattle.claims.specs.Amounts.{Part, ofInterest, ofPrincipal, centsOn, centsFor, factorFor, amount, outcomeOf, isLate, releaseOf, isEarly, slotOf, Parties, claimOn}
 
 -- ---- the amount rule
 
--- the cents are the nearest to the exact amount, half a cent going up
-pub cents-nearest : (par factor : ℕ) → (10000000 * centsOn par factor ≤ par * factor + 5000000) × (par * factor + 5000000 < 10000000 * centsOn par factor + 10000000)
-unfolding centsOn
-cents-nearest par factor = omega arith
+-- the cents of either part are the nearest to the exact amount, half a cent going up
+pub cents-nearest : (part : Part) (par factor : ℕ)
+    → (10000000 * centsFor part par factor ≤ par * factor + 5000000) × (par * factor + 5000000 < 10000000 * centsFor part par factor + 10000000)
+unfolding centsFor centsOn
+cents-nearest ofInterest par factor = omega arith
+cents-nearest ofPrincipal par factor = omega arith
 
 -- ---- the outcome
 
@@ -101,20 +103,20 @@ early-types = (refl, refl, refl, refl)
 
 pub record Says (c : Claim) (calendar tables : List ℕ) (day number : ℕ) (x : Parties) (par claimType : ℕ) (row : Row) : Type 0 where
   pub claim-type : c .«claim_type» ≡ claimType
-  pub outcome : c .outcome ≡ outcomeOf claimType (x .payer) row (centsOn par (row .interestFactor)) (centsOn par (row .principalFactor))
+  pub outcome : c .outcome ≡ outcomeOf claimType (x .payer) row (centsFor ofInterest par (row .interestFactor)) (centsFor ofPrincipal par (row .principalFactor))
   pub payer : c .payer ≡ x .payer
   pub payee : c .payee ≡ x .payee
   pub security : c .security ≡ x .security
   pub row-number : c .row ≡ row .index
   pub transfer-number : c .transfer ≡ number
-  pub interest : c .interest .0 ≡ centsOn par (row .interestFactor)
-  pub principal : c .principal .0 ≡ centsOn par (row .principalFactor)
+  pub interest : c .interest .0 ≡ centsFor ofInterest par (row .interestFactor)
+  pub principal : c .principal .0 ≡ centsFor ofPrincipal par (row .principalFactor)
   pub release : c .release ≡ releaseOf calendar claimType day row (c .outcome)
   pub slot : c .slot ≡ slotOf (typeOf (securityOf tables (x .security))) claimType day row (c .outcome)
 
 pub claim-says : (calendar tables : List ℕ) (day number : ℕ) (x : Parties) (par claimType : ℕ) (row : Row)
     → Says (claimOn calendar tables day number x par claimType row) calendar tables day number x par claimType row
-unfolding claimOn amount
+unfolding claimOn amount factorFor
 claim-says calendar tables day number x par claimType row =
     record {
       claim-type = refl;

@@ -7,21 +7,14 @@ use Prim.Native.Nat.{ℕ, _+_, _*_, _/_, _%_}
 use lib.Dec.{eqb}
 use lib.ListN.{replicate, set}
 use Rattle.lists.specs.All.{all}
-use Rattle.lists.specs.Numbers.{bytesOf, numberOf}
-use Rattle.lists.specs.Fields.{encode}
-use Rattle.lists.specs.Select.{select, lastOf}
-use Rattle.lists.specs.Tabulate.{each, eachOf}
-use Rattle.days.specs.Days.{leapDay, monthLength, isDate, wordOf, dateOf, lengthOf, bitOn, lowestFrom, seekFrom, openAt, openAfter, openFrom}
-use Rattle.days.specs.Weekdays.{isWeekday, weekdayWord, weekdaysFrom, weekdays}
+use Rattle.days.specs.Weekdays.{weekdays}
 use Rattle.records.specs.declared.Claim.{Claim}
-use Rattle.records.specs.MessageRecords.{claimKind, recordBytes, claimValues, transferOf, firstLine, secondLine}
-use Rattle.securities.specs.Securities.{securityOf, typeOf, frequencyOf, rowOf, rowsFrom, rowsOf, isEmpty, isFilled, filledRows}
+use Rattle.records.specs.MessageRecords.{transferOf}
 use Rattle.securities.specs.Cases.{caseTables}
-use Rattle.tags.specs.ContractDateTag.{opener, same, openersFrom, openers, endIn, endFrom, isDigit, digitsAfter, digitsNumber, writesDate, tagHolding, tagAt, tagOf, tagged, contractDate, isSeveral, isUnended, isNotDate, editCauses}
-use Rattle.claims.specs.Amounts.{centsOn, amount, outcomeOf, isLate, releaseOf, isEarly, slotOf, claimOn}
-use Rattle.claims.specs.Fails.{messageTag, maximumNumbers, maximumFor, eligibleIn, eligible, fails, dues, transferParties, transferClaims}
-use Rattle.claims.specs.Close.{crosses, crossed, loanParties, loanClaim, securityBalances, lenderBalances, rowClaims, closeClaims}
-use Rattle.claims.specs.Written.{claimBytes, bytesOfAll}
+use Rattle.claims.specs.Fails.{messageTag, maximumNumbers, maximumFor, transferClaims}
+use Rattle.claims.specs.Close.{closeClaims}
+use Rattle.claims.specs.Written.{bytesOfAll}
+use Rattle.claims.proofs.Opened.{openedClaims}
 
 -- ---- messages
 
@@ -211,20 +204,15 @@ apartCloses =
 
 -- ---- the theorems
 
--- what the rows are computed from
-unfoldable computed : ℕ
-unfolding tagLine blank sent sameBytes all bytesOf numberOf encode select lastOf each eachOf leapDay monthLength isDate wordOf dateOf lengthOf bitOn lowestFrom seekFrom openAt openAfter openFrom isWeekday weekdayWord weekdaysFrom weekdays claimKind recordBytes claimValues transferOf firstLine secondLine securityOf typeOf frequencyOf rowOf rowsFrom rowsOf isEmpty isFilled filledRows caseTables opener same openersFrom openers endIn endFrom isDigit digitsAfter digitsNumber writesDate tagHolding tagAt tagOf tagged contractDate isSeveral isUnended isNotDate editCauses centsOn amount outcomeOf isLate releaseOf isEarly slotOf claimOn messageTag maximumNumbers maximumFor eligibleIn eligible fails dues transferParties transferClaims crosses crossed loanParties loanClaim securityBalances lenderBalances rowClaims closeClaims claimBytes bytesOfAll claimed maximaOf
-computed = 0
-
 rows-hold :
     all (λ r. sameBytes (bytesOfAll (transferClaims weekdays (r .tables) (r .day) 9 (transferOf (r .message)) (messageTag (r .message)))) (r .claims)) transfers
     && all (λ r. sameBytes (bytesOfAll (closeClaims weekdays (r .tables) (r .day) balances)) (r .claims)) closes
     && maxima ≡ true
-unfolding computed manyTables balances transfers closes maxima
+unfolding openedClaims tagLine blank sent sameBytes manyTables balances transfers closes maximaOf maxima
 rows-hold = refl
 
 apart-rows-hold :
     all (λ r. sameBytes (claimed (transferClaims weekdays (r .tables) (r .day) 9 (transferOf (r .message)) (messageTag (r .message)))) (r .claims)) apartTransfers
     && all (λ r. sameBytes (claimed (closeClaims weekdays (r .tables) (r .day) loans)) (r .claims)) apartCloses ≡ true
-unfolding computed apartTables loans apartTransfers apartCloses
+unfolding openedClaims tagLine blank sent sameBytes apartTables loans claimed apartTransfers apartCloses
 apart-rows-hold = refl

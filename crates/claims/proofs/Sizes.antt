@@ -20,7 +20,7 @@ use Rattle.records.specs.declared.Transfer.{Transfer}
 use Rattle.tags.specs.declared.Tag.{Tag}
 use Rattle.securities.specs.Securities.{securityOf, typeOf, Row, filledRows, goodRow}
 use Rattle.securities.proofs.Sound.{good-row, Sound}
-use Rattle.claims.specs.Amounts.{centsOn, amount, outcomeOf, isLate, releaseOf, isEarly, slotOf, Parties, claimOn, failType, lendingType}
+use Rattle.claims.specs.Amounts.{Part, ofInterest, ofPrincipal, centsOn, centsFor, factorFor, amount, outcomeOf, isLate, releaseOf, isEarly, slotOf, Parties, claimOn, failType, lendingType}
 use Rattle.claims.specs.Fails.{eligibleIn, eligible, Due, due, fails, dues, transferParties, transferClaims}
 use Rattle.claims.specs.Close.{crossed, loanParties, loanClaim, rowClaims, closeClaims, securityBalances, lenderBalances}
 use Rattle.claims.proofs.Written.{Fits, AllFit, all-fit-append}
@@ -41,9 +41,10 @@ fit-cond : (n : ℕ) (b : Bool) (x y : ℕ) → x < n → y < n → cond b x y <
 fit-cond n true x y h k = h
 fit-cond n false x y h k = k
 
-small-cents : (par factor : ℕ) → par ≤ 9000000000 → factor ≤ 2000000000 → centsOn par factor < 18446744073709551616
-unfolding centsOn
-small-cents par factor a b = omega (arith, mul-le-mul a b)
+small-cents : (part : Part) (par factor : ℕ) → par ≤ 9000000000 → factor ≤ 2000000000 → centsFor part par factor < 18446744073709551616
+unfolding centsFor centsOn
+small-cents ofInterest par factor a b = omega (arith, mul-le-mul a b)
+small-cents ofPrincipal par factor a b = omega (arith, mul-le-mul a b)
 
 fit-outcome : (claimType payer : ℕ) (row : Row) (i j : ℕ) → outcomeOf claimType payer row i j < 256
 unfolding outcomeOf
@@ -75,11 +76,11 @@ module _ (calendar tables : List ℕ) (kept : Kept calendar) where
 
   fit-claim : (day n : ℕ) (x : Parties) (par claimType : ℕ) (row : Row) → claimType < 256 → n < 4294967296 → SmallParties x → par ≤ 9000000000
       → rowFits (lastOpen calendar) row ≡ true → Fits (claimOn calendar tables day n x par claimType row)
-  unfolding claimKind claimValues claimOn amount rowFits
+  unfolding claimKind claimValues claimOn amount factorFor rowFits
   fit-claim day n x par claimType row a b r c d =
       let g = good-row (lastOpen calendar) row (and-left (goodRow (lastOpen calendar) row) _ d) in
       let i = ltb-true (row .index) 16 (and-right (goodRow (lastOpen calendar) row) _ d) in
-      let o = outcomeOf claimType (x .payer) row (centsOn par (row .interestFactor)) (centsOn par (row .principalFactor)) in (
+      let o = outcomeOf claimType (x .payer) row (amount ofInterest par row) (amount ofPrincipal par row) in (
         a,
         (
           fit-outcome claimType (x .payer) row _ _,
@@ -94,9 +95,9 @@ module _ (calendar tables : List ℕ) (kept : Kept calendar) where
                   (
                     b,
                     (
-                      small-cents par (row .interestFactor) c (g .interest),
+                      small-cents ofInterest par (row .interestFactor) c (g .interest),
                       (
-                        small-cents par (row .principalFactor) c (g .principal),
+                        small-cents ofPrincipal par (row .principalFactor) c (g .principal),
                         (fit-release claimType day row o, (fit-slot (typeOf (securityOf tables (x .security))) claimType day row o, tt)),
                       ),
                     ),

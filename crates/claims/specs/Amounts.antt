@@ -17,10 +17,19 @@ pub data Part : Type 0 where
 unfoldable pub centsOn : ℕ → ℕ → ℕ
 centsOn par factor = (par * factor + 5000000) / 10000000
 
--- The amount rule: the cents of a part of a row's payment. Only this rule leads from dollars of par to cents.
+-- The amount rule of each part, on par at the part's own factor. Only this rule leads from dollars of par to cents.
+unfoldable pub centsFor : Part → ℕ → ℕ → ℕ
+centsFor ofInterest par factor = centsOn par factor
+centsFor ofPrincipal par factor = centsOn par factor
+
+-- The factor of a part in a row.
+unfoldable pub factorFor : Part → Row → ℕ
+factorFor ofInterest row = row .interestFactor
+factorFor ofPrincipal row = row .principalFactor
+
+-- The cents of a part of a row's payment.
 unfoldable pub amount : Part → ℕ → Row → ℕ
-amount ofInterest par row = centsOn par (row .interestFactor)
-amount ofPrincipal par row = centsOn par (row .principalFactor)
+amount part par row = centsFor part par (factorFor part row)
 
 -- ---- claim types and outcomes
 

@@ -1,3 +1,4 @@
+pub mod Opened
 pub mod Lengths
 pub mod Parts
 pub mod Bits

@@ -7,8 +7,9 @@ use Prim.Native.Nat.{ℕ, _^_}
 use lib.Dec.{eqb}
 use lib.ListN.{set, replicate, length}
 use Rattle.lists.specs.All.{all}
-use Rattle.days.specs.Days.{leapDay, monthLength, isDate, wordOf, dateOf, lengthOf, bitOn, badFrom, badCalendar, isOpen, lowestFrom, seekFrom, openAt, openAfter, openFrom, highestBelow, lastBelow, lastOpen}
-use Rattle.days.specs.Weekdays.{isWeekday, weekdayWord, weekdaysFrom, weekdays}
+use Rattle.days.specs.Days.{badCalendar, isOpen, openAfter, openFrom, lastOpen}
+use Rattle.days.specs.Weekdays.{weekdays}
+use Rattle.days.proofs.Opened.{openedDays}
 
 -- a day; whether it is open, as 1 or 0; the first open day after it, and the first on or after it, 0 for none
 record Row : Type 0 where
@@ -81,5 +82,5 @@ calendars =
     && eqb (openAfter (set closed 479 (2 ^ 30)) 20000101) 20391231
 
 rows-hold : all holds rows && calendars ≡ true
-unfolding all holds rows calendars closed broken weekdays weekdaysFrom weekdayWord isWeekday leapDay monthLength isDate wordOf dateOf lengthOf bitOn badFrom badCalendar isOpen lowestFrom seekFrom openAt openAfter openFrom highestBelow lastBelow lastOpen
+unfolding openedDays holds rows calendars closed broken
 rows-hold = refl

@@ -1,3 +1,4 @@
+pub mod Opened
 pub mod Accepted
 pub mod Balances
 pub mod Simulation

@@ -17,7 +17,7 @@ use Rattle.records.specs.declared.Claim.{Claim}
 use Rattle.records.specs.declared.ReadClaim.the-variants.{Is}
 use Rattle.records.specs.MessageRecords.{transferOf}
 use Rattle.securities.specs.Securities.{Row}
-use Rattle.claims.specs.Amounts.{Part, ofInterest, ofPrincipal, centsOn, amount, failType, lendingType, Parties, claimOn}
+use Rattle.claims.specs.Amounts.{Part, ofInterest, ofPrincipal, centsOn, centsFor, factorFor, amount, failType, lendingType, Parties, claimOn}
 use Rattle.claims.specs.Fails.{messageTag, eligible, Due, due, fails, dues, transferParties, transferClaims}
 use Rattle.claims.specs.Close.{crossed, loanParties, loanClaim, securityBalances, lenderBalances, rowClaims, closeClaims}
 use Rattle.claims.proofs.Crossed.{balance-word}
@@ -72,10 +72,14 @@ cond-and true b n = refl
 cond-and false b n = refl
 
 -- nothing is due on no par
+no-cents : (part : Part) (factor : ℕ) → centsFor part 0 factor ≡ 0
+unfolding centsFor centsOn
+no-cents ofInterest factor = rw (zero-mul factor)
+no-cents ofPrincipal factor = rw (zero-mul factor)
+
 amount-zero : (part : Part) (row : Row) → amount part 0 row ≡ 0
-unfolding amount centsOn
-amount-zero ofInterest row = rw (zero-mul (row .interestFactor))
-amount-zero ofPrincipal row = rw (zero-mul (row .principalFactor))
+unfolding amount
+amount-zero part row = no-cents part (factorFor part row)
 
 pub amounts-zero : (part : Part) (rowTest : ℕ → Bool) (rows : List Row) → amounts part rowTest 0 rows ≡ 0
 unfolding amounts

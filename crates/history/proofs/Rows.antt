@@ -7,30 +7,13 @@ use Prim.Native.Nat.{ℕ, _+_, _/_, _%_}
 use lib.Dec.{eqb}
 use lib.ListN.{length, replicate, set, take}
 use Rattle.book.specs.declared.Book.{Book}
-use Rattle.lists.specs.Tests.{below}
 use Rattle.lists.specs.All.{all}
-use Rattle.lists.specs.Numbers.{bytesOf, numberOf}
-use Rattle.lists.specs.Fields.{total, encode, decode}
-use Rattle.lists.specs.First.{firstOf}
-use Rattle.lists.specs.Sums.{sum}
-use Rattle.lists.specs.Select.{select, lastOf}
-use Rattle.lists.specs.Tabulate.{tabulate, each, eachOf}
-use Rattle.days.specs.Days.{leapDay, monthLength, isDate, wordOf, dateOf, lengthOf, bitOn, badFrom, badCalendar, isOpen, lowestFrom, seekFrom, openAt, openAfter, openFrom, highestBelow, lastBelow, lastOpen}
-use Rattle.days.specs.Weekdays.{isWeekday, weekdayWord, weekdaysFrom, weekdays}
-use Rattle.records.specs.MessageRecords.{transferKind, closeKind, claimKind, size, recordBytes, claimValues, transferOf, firstLine, secondLine, header, headed, reads}
-use Rattle.securities.specs.Securities.{securityOf, typeOf, frequencyOf, rowOf, rowsFrom, rowsOf, isEmpty, isFilled, filledRows, goodRow, goodRows, goodSecurity, goodTables}
+use Rattle.days.specs.Weekdays.{weekdays}
 use Rattle.securities.specs.Cases.{caseTables}
-use Rattle.tags.specs.ContractDateTag.{opener, same, tagged, openersFrom, openers, endIn, endFrom, isDigit, digitsAfter, digitsNumber, writesDate, tagHolding, tagAt, tagOf, contractDate, isSeveral, isUnended, isNotDate, editCauses}
-use Rattle.claims.specs.Amounts.{centsOn, amount, outcomeOf, isLate, releaseOf, isEarly, slotOf, claimOn}
-use Rattle.claims.specs.Fails.{messageTag, maximumNumbers, maximumFor, eligibleIn, eligible, fails, dues, transferParties, transferClaims}
-use Rattle.claims.specs.Close.{crosses, crossed, loanParties, loanClaim, securityBalances, lenderBalances, rowClaims, closeClaims}
-use Rattle.claims.specs.Written.{claimBytes, bytesOfAll, written}
-use Rattle.book.specs.Book.{word, position, balanceAt, layout}
-use Rattle.book.specs.Loans.{increasing, decreasing, bySender, byReceiver, changeOf, changed, aboveBalance, pastLimit, loanCauses}
-use Rattle.book.specs.Soundness.{wrongLength, badDay, goodBalance, goodBalancesFrom, badBalances, tableCauses, bookCauses, openingCauses}
-use Rattle.history.specs.Calls.{Call, transfer, close, bufferOf, claimsOf}
-use Rattle.history.specs.Causes.{recordCauses, outOfRange, fieldCauses, countCauses, lastDayCauses, roomCauses, transferCauses, callCauses, causes, numberFor, openingNumber}
-use Rattle.history.specs.Results.{Answer, nextBook, nextBalances, resultFor, result, openedFor, opened, run, runFrom}
+use Rattle.history.specs.Calls.{Call, transfer, close}
+use Rattle.history.specs.Causes.{numberFor}
+use Rattle.history.specs.Results.{Answer, opened, runFrom}
+use Rattle.history.proofs.Opened.{openedHistory}
 
 -- ---- messages
 
@@ -266,15 +249,15 @@ history =
 
 -- ---- the theorems
 
--- what the rows are computed from
-unfoldable computed : ℕ
-unfolding tag line tagLine blank twoTags openTag badTag sent closing zeros below all bytesOf numberOf total encode decode firstOf sum select lastOf tabulate each eachOf leapDay monthLength isDate wordOf dateOf lengthOf bitOn badFrom badCalendar isOpen lowestFrom seekFrom openAt openAfter openFrom highestBelow lastBelow lastOpen isWeekday weekdayWord weekdaysFrom weekdays transferKind closeKind claimKind size recordBytes claimValues transferOf firstLine secondLine headed header reads securityOf typeOf frequencyOf rowOf rowsFrom rowsOf isEmpty isFilled filledRows goodRow goodRows goodSecurity goodTables caseTables opener same tagged openersFrom openers endIn endFrom isDigit digitsAfter digitsNumber writesDate tagHolding tagAt tagOf contractDate isSeveral isUnended isNotDate editCauses centsOn amount outcomeOf isLate releaseOf isEarly slotOf claimOn messageTag maximumNumbers maximumFor eligibleIn eligible fails dues transferParties transferClaims crosses crossed loanParties loanClaim securityBalances lenderBalances rowClaims closeClaims claimBytes bytesOfAll written word position balanceAt layout increasing decreasing bySender byReceiver changeOf changed aboveBalance pastLimit wrongLength badDay goodBalance goodBalancesFrom badBalances tableCauses bookCauses openingCauses bufferOf claimsOf recordCauses outOfRange fieldCauses countCauses loanCauses lastDayCauses roomCauses transferCauses callCauses causes numberFor openingNumber openedFor opened sevens nextBook nextBalances resultFor result run runFrom
-computed = 0
+-- what both theorems open
+unfoldable opens : ℕ
+unfolding openedHistory tag line tagLine blank twoTags openTag badTag sent closing zeros sevens
+opens = 0
 
 rows-hold : openings && all (λ r. eqb (numberFor (r .calendar) (r .tables) (r .book) (r .balances) (r .call)) (r .number)) rows ≡ true
-unfolding computed held near lastTables lateTables rows opening openings
+unfolding opens held near lastTables lateTables rows opening openings
 rows-hold = refl
 
 history-holds : history ≡ true
-unfolding computed apartTables onSevens calls answered found expected sameNumbers history
+unfolding opens apartTables onSevens calls answered found expected sameNumbers history
 history-holds = refl

@@ -1,3 +1,4 @@
+pub mod Opened
 pub mod Flags
 pub mod Steps
 pub mod Theorem

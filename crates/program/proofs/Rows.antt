@@ -10,18 +10,11 @@ use Rattle.lists.specs.Numbers.{bytesOf}
 use Rattle.lists.specs.Put.{put}
 use Rattle.days.specs.Weekdays.{weekdays}
 use Rattle.securities.specs.Cases.{caseTables}
-use Rattle.book.specs.Book.{layout}
-use Rattle.book.specs.Soundness.{openingCauses}
-use Rattle.history.specs.Causes.{openingNumber}
-use Rattle.history.specs.Results.{openedFor, opened}
-use Rattle.history.specs.Ledger.{started, isIncrease, isDecrease, increasedBy, decreasedBy, increases, decreases, parLent, transferCount, transfers, bookOf, balancesOf, numberOn, dayAfter, keep, answerFor, judged}
-use Rattle.stream.specs.Serving.{isFull, leavesFor, leaves}
-use Rattle.stream.specs.Statement.{ledgerBytes}
-use Rattle.stream.proofs.Rows.{computed, message, closing, example, accepted, five, sameBytes}
-use Rattle.book_file.specs.BookFile.{wordsIn, calendarIn, tablesIn, dayIn}
-use Rattle.program.specs.Claimrun.{missing, holds, noBalances, fileNumber, writtenFor, claimrunBytes}
-use Rattle.program.specs.Steps.{refusedHeld, openHeld, openingFor, opening, begins, Holding, holding, pending, toWrite, hasEnded, isOver, heldAfter, servedIn, afterServing, resting, stepped}
+use Rattle.stream.proofs.Rows.{message, closing, example, accepted, five, sameBytes}
+use Rattle.program.specs.Claimrun.{missing, holds, noBalances, claimrunBytes}
+use Rattle.program.specs.Steps.{begins, Holding, holding, pending, toWrite, stepped}
 use Rattle.program.specs.Statement.{atFirst}
+use Rattle.program.proofs.Opened.{openedProgram}
 
 -- ---- books
 
@@ -126,11 +119,11 @@ kept =
 -- ---- the theorems
 
 unfoldable whole : ℕ
-unfolding computed wordBytes bookOn answered message example five bytesOf put layout openingCauses openingNumber openedFor opened started isIncrease isDecrease increasedBy decreasedBy increases decreases parLent transferCount transfers bookOf balancesOf numberOn dayAfter keep answerFor judged leavesFor leaves ledgerBytes wordsIn calendarIn tablesIn dayIn fileNumber writtenFor claimrunBytes
+unfolding openedProgram message closing example accepted five sameBytes wordBytes bookOn answered
 whole = 0
 
 unfoldable stepping : ℕ
-unfolding refusedHeld openHeld openingFor opening begins holding pending toWrite hasEnded isFull isOver heldAfter servedIn afterServing resting stepped atFirst sameFlag sameHolding reading first loaned
+unfolding sameFlag sameHolding reading first loaned
 stepping = 0
 
 books-hold : books ≡ true

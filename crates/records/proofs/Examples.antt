@@ -6,13 +6,12 @@ use Prim.Native.Nat.{ℕ}
 use lib.Dec.{eqb}
 use lib.ListN.{replicate, take, drop}
 use Rattle.lists.specs.All.{all}
-use Rattle.lists.specs.Numbers.{bytesOf, numberOf}
-use Rattle.lists.specs.Fields.{encode, decode}
 use Rattle.records.specs.declared.Transfer.{Transfer}
 use Rattle.records.specs.declared.Claim.{Claim}
-use Rattle.records.specs.MessageRecords.{Kind, transferKind, closeKind, claimKind, answerKind, size, recordBytes}
+use Rattle.records.specs.MessageRecords.{Kind, transferKind, closeKind, claimKind, answerKind, recordBytes}
 use Rattle.records.specs.MessageRecords.{transferValues, claimValues, transferOf, claimOf, answerOf}
-use Rattle.records.specs.MessageRecords.{header, headed, reads, reading, writing, firstLine, secondLine}
+use Rattle.records.specs.MessageRecords.{reading, writing, firstLine, secondLine}
+use Rattle.records.proofs.Opened.{openedRecords}
 
 -- two lists of numbers are the same
 unfoldable pub same : List ℕ → List ℕ → Bool
@@ -65,12 +64,12 @@ wholes =
     ∷ []
 
 pub written-and-read : all holds wholes ≡ true
-unfolding all holds wholes claimBytes answerBytes transferBytes line1 line2 same recordBytes reading reads headed header transferKind closeKind claimKind answerKind encode decode bytesOf numberOf
+unfolding openedRecords holds wholes claimBytes answerBytes transferBytes line1 line2 same
 written-and-read = refl
 
 -- the lines of that transfer
 pub lines-read : same (firstLine transferBytes) line1 && same (secondLine transferBytes) line2 ≡ true
-unfolding firstLine secondLine transferBytes line1 line2 same
+unfolding openedRecords transferBytes line1 line2 same
 lines-read = refl
 
 -- ---- every byte at its place: bytes that count up from the header on
@@ -107,7 +106,7 @@ pub record Counted : Type 0 where
   pub answer-field : answerOf (4 ∷ 0 ∷ 4 ∷ 0 ∷ counted) ≡ record { number = 513 }
 
 pub counted-up : Counted
-unfolding counted countedTransfer countedClaim transferOf claimOf answerOf transferValues claimValues recordBytes transferKind claimKind encode bytesOf numberOf
+unfolding openedRecords counted countedTransfer countedClaim
 counted-up =
     record { transfer-fields = refl; transfer-bytes = refl; claim-fields = refl; claim-bytes = refl; answer-field = refl }
 
@@ -120,7 +119,7 @@ pub record Buffers : Type 0 where
   pub shorter : writing answerKind (138 ∷ []) [] (replicate 5 9) ≡ record { number = 10; buffer = replicate 5 9 }
 
 pub buffers : Buffers
-unfolding writing answerKind closeKind size recordBytes encode bytesOf
+unfolding openedRecords
 buffers = record { longer = refl; exact = refl; shorter = refl }
 
 -- ---- refusals
@@ -151,5 +150,5 @@ refusals =
     ∷ []
 
 pub refused-with-5 : all refuses refusals ≡ true
-unfolding all refuses refusals claimBytes answerBytes transferBytes line1 line2 same reading reads headed header transferKind closeKind claimKind answerKind decode numberOf
+unfolding openedRecords refuses refusals claimBytes answerBytes transferBytes line1 line2 same
 refused-with-5 = refl

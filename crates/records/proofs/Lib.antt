@@ -1,3 +1,4 @@
+pub mod Opened
 pub mod Readings
 pub mod Writings
 pub mod RecordKinds

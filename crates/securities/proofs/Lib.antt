@@ -1,3 +1,4 @@
+pub mod Opened
 pub mod Sound
 pub mod Rows
 pub mod Checks

@@ -5,13 +5,11 @@ use mathlib.Core.List.{List, [], _∷_, _++_}
 use Prim.Native.Nat.{ℕ}
 use lib.Dec.{eqb}
 use lib.ListN.{length, set, replicate, drop}
-use Rattle.lists.specs.Tests.{below}
 use Rattle.lists.specs.All.{all}
-use Rattle.lists.specs.Select.{select}
-use Rattle.days.specs.Days.{leapDay, monthLength, isDate, lengthOf, dateOf, bitOn, highestBelow, lastBelow, lastOpen}
-use Rattle.days.specs.Weekdays.{isWeekday, weekdayWord, weekdaysFrom, weekdays}
-use Rattle.securities.specs.Securities.{securityOf, typeOf, frequencyOf, rowOf, rowsFrom, rowsOf, isEmpty, isFilled, filledRows, goodRow, goodRows, goodSecurity, goodTables}
+use Rattle.days.specs.Weekdays.{weekdays}
+use Rattle.securities.specs.Securities.{rowOf, filledRows, goodTables}
 use Rattle.securities.specs.Cases.{caseTables}
+use Rattle.securities.proofs.Opened.{openedSecurities}
 
 -- a word of the tables, what is put there, and whether the tables are then good, as 1 or 0
 record Edit : Type 0 where
@@ -88,13 +86,13 @@ words-of-row :
       final = 1;
       mask = 6;
     }
-unfolding rowOf
+unfolding openedSecurities
 words-of-row = refl
 
 second-row : filledRows caseTables 0 ≡ rowOf 0 (drop 2 caseTables) ∷ rowOf 1 (drop 9 caseTables) ∷ []
-unfolding filledRows caseTables securityOf rowsOf rowsFrom rowOf isEmpty isFilled select
+unfolding openedSecurities
 second-row = refl
 
 rows-hold : all holds edits && others ≡ true
-unfolding all select below holds edits others caseTables weekdays weekdaysFrom weekdayWord isWeekday leapDay monthLength isDate lengthOf dateOf bitOn highestBelow lastBelow lastOpen securityOf typeOf frequencyOf rowOf rowsFrom rowsOf isEmpty isFilled filledRows goodRow goodRows goodSecurity goodTables
+unfolding openedSecurities holds edits others
 rows-hold = refl

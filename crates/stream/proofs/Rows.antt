@@ -7,36 +7,15 @@ use mathlib.Core.List.{List, [], _∷_, _++_}
 use Prim.Native.Nat.{ℕ, zero, suc, _+_, _-_, _*_}
 use lib.Dec.{eqb}
 use lib.ListN.{length, replicate, take, drop}
-use Rattle.lists.specs.Tests.{below}
-use Rattle.lists.specs.All.{all}
-use Rattle.lists.specs.Numbers.{bytesOf, numberOf}
-use Rattle.lists.specs.Fields.{total, encode, decode}
-use Rattle.lists.specs.First.{firstOf}
 use Rattle.lists.specs.Sums.{sum}
-use Rattle.lists.specs.Select.{select, lastOf}
-use Rattle.lists.specs.Tabulate.{tabulate, each, eachOf}
-use Rattle.days.specs.Days.{leapDay, monthLength, isDate, wordOf, dateOf, lengthOf, bitOn, badFrom, badCalendar, isOpen, lowestFrom, seekFrom, openAt, openAfter, openFrom, highestBelow, lastBelow, lastOpen}
-use Rattle.days.specs.Weekdays.{isWeekday, weekdayWord, weekdaysFrom, weekdays}
-use Rattle.records.specs.MessageRecords.{transferKind, closeKind, claimKind, size, recordBytes, claimValues, transferOf, firstLine, secondLine, header, headed, reads}
-use Rattle.securities.specs.Securities.{securityOf, typeOf, frequencyOf, rowOf, rowsFrom, rowsOf, isEmpty, isFilled, filledRows, goodRow, goodRows, goodSecurity, goodTables}
+use Rattle.days.specs.Weekdays.{weekdays}
 use Rattle.securities.specs.Cases.{caseTables}
-use Rattle.tags.specs.ContractDateTag.{opener, same, tagged, openersFrom, openers, endIn, endFrom, isDigit, digitsAfter, digitsNumber, writesDate, tagHolding, tagAt, tagOf, contractDate, isSeveral, isUnended, isNotDate, editCauses}
-use Rattle.claims.specs.Amounts.{centsOn, amount, outcomeOf, isLate, releaseOf, isEarly, slotOf, claimOn}
-use Rattle.claims.specs.Fails.{messageTag, maximumNumbers, maximumFor, eligibleIn, eligible, fails, dues, transferParties, transferClaims}
-use Rattle.claims.specs.Close.{crosses, crossed, loanParties, loanClaim, securityBalances, lenderBalances, rowClaims, closeClaims}
-use Rattle.claims.specs.Written.{claimBytes, bytesOfAll, written}
-use Rattle.book.specs.Book.{word, position, balanceAt}
-use Rattle.book.specs.Loans.{increasing, decreasing, bySender, byReceiver, changeOf, changed, aboveBalance, pastLimit, loanCauses}
-use Rattle.book.specs.Soundness.{wrongLength, badDay, goodBalance, goodBalancesFrom, badBalances, tableCauses, bookCauses}
-use Rattle.history.specs.Calls.{bufferOf, claimsOf}
-use Rattle.history.specs.Causes.{recordCauses, outOfRange, fieldCauses, countCauses, lastDayCauses, roomCauses, transferCauses, callCauses, causes, numberFor}
 use Rattle.book.specs.declared.Book.{Book}
-use Rattle.history.specs.Results.{nextBook, nextBalances, resultFor, result, run}
-use Rattle.records.specs.MessageRecords.{answerKind}
 use Rattle.stream.specs.declared.Next.{Next}
 use Rattle.stream.specs.declared.Next.the-variants.{Waiting, Wrong, Record}
-use Rattle.stream.specs.Stream.{unready, next, callWith, callFor, answerBytes, emitted, emittedAll, onNext, added, split, callsOf, ending, streamBytes}
-use Rattle.stream.specs.Serving.{Serving, stopped, endedByFive, after, serveUpTo, serving}
+use Rattle.stream.specs.Stream.{next, streamBytes}
+use Rattle.stream.specs.Serving.{Serving, serving}
+use Rattle.stream.proofs.Opened.{openedStream}
 
 -- ---- bytes
 
@@ -155,15 +134,10 @@ tooMany =
 
 -- ---- the theorems
 
--- what the rows are computed from
-unfoldable pub computed : ℕ
-unfolding below all each tabulate closing accepted sameBytes book bytesOf numberOf total encode decode firstOf sum select lastOf eachOf leapDay monthLength isDate wordOf dateOf lengthOf bitOn badFrom badCalendar isOpen lowestFrom seekFrom openAt openAfter openFrom highestBelow lastBelow lastOpen isWeekday weekdayWord weekdaysFrom weekdays transferKind closeKind claimKind size recordBytes claimValues transferOf firstLine secondLine headed reads securityOf typeOf frequencyOf rowOf rowsFrom rowsOf isEmpty isFilled filledRows goodRow goodRows goodSecurity goodTables caseTables opener same tagged openersFrom openers endIn endFrom isDigit digitsAfter digitsNumber writesDate tagHolding tagAt tagOf contractDate isSeveral isUnended isNotDate editCauses centsOn amount outcomeOf isLate releaseOf isEarly slotOf claimOn messageTag maximumNumbers maximumFor eligibleIn eligible fails dues transferParties transferClaims crosses crossed loanParties loanClaim securityBalances lenderBalances rowClaims closeClaims claimBytes bytesOfAll written word position balanceAt increasing decreasing bySender byReceiver changeOf changed aboveBalance pastLimit wrongLength badDay goodBalance goodBalancesFrom badBalances tableCauses bookCauses bufferOf claimsOf recordCauses outOfRange fieldCauses countCauses loanCauses lastDayCauses roomCauses transferCauses callCauses causes numberFor nextBook nextBalances resultFor result run header unready next callWith callFor answerBytes emitted emittedAll onNext added split callsOf ending streamBytes stopped endedByFive after serveUpTo serving answerKind
-computed = 0
-
 rows-hold : begins && runs ≡ true
-unfolding computed message example five sameNext begins input sameRun runs
+unfolding openedStream message closing example accepted five sameNext begins sameBytes book input sameRun runs
 rows-hold = refl
 
 many-claims-hold : many && tooMany ≡ true
-unfolding computed paymentRows twoRows threeRows lenders friday many tooMany
+unfolding openedStream closing accepted sameBytes paymentRows twoRows threeRows lenders friday many tooMany
 many-claims-hold = refl

@@ -9,9 +9,9 @@ use lib.ListN.{length, replicate}
 use Rattle.lists.specs.All.{all}
 use Rattle.lists.specs.Put.{put}
 use Rattle.lists.specs.First.{firstOf}
-use Rattle.days.specs.Days.{isDate, monthLength, leapDay}
-use Rattle.tags.specs.ContractDateTag.{opener, same, openersFrom, openers, endIn, endFrom, isDigit, digitsAfter, digitsNumber, writesDate, tagHolding, tagAt, tagOf, tagged, contractDate, isSeveral, isUnended, isNotDate, editCauses}
+use Rattle.tags.specs.ContractDateTag.{tagOf, contractDate, editCauses}
 use Rattle.tags.proofs.Digits.{written}
+use Rattle.tags.proofs.Opened.{openedTags}
 
 -- {98A:CNTR/
 mark : List ℕ
@@ -141,5 +141,5 @@ rows : List Row
 rows = plain ++ missing ++ atEnd ++ empty ++ unended ++ ends ++ several ++ notDigits ++ notDates ++ late ++ otherClass
 
 rows-hold : all holds rows ≡ true
-unfolding all holds rows plain missing atEnd empty unended ends several notDigits notDates late otherClass mark tag blank line put firstOf isDate monthLength leapDay opener same openersFrom openers endIn endFrom isDigit digitsAfter digitsNumber writesDate tagHolding tagAt tagOf tagged contractDate isSeveral isUnended isNotDate editCauses
+unfolding openedTags holds rows plain missing atEnd empty unended ends several notDigits notDates late otherClass mark tag blank line
 rows-hold = refl

@@ -1,4 +1,5 @@
 -- Each field is its callee's, and the type is the first word of the security.
+use Rattle.claims.specs.Amounts.{centsFor}
 use Rattle.claims.proofs.Making.{made}
 use borrow.Author.Needs.{needs}
 use Rattle.amounts.proofs.claim_on.Statement.{statement}
@@ -35,6 +36,7 @@ slot-requires : tie.Need-slot-requires
 slot-requires c κs = search needs
 
 returns : tie.Need-returns
+unfolding centsFor
 returns c =
     let principal = c .before .before .before .before in
     let interest = principal .before .before in

@@ -1,0 +1,11 @@
+-- The definitions of this crate and of those below it that computed rows open, under one name.
+use Prim.Native.Nat.{ℕ}
+use Rattle.records.proofs.Opened.{openedRecords}
+use Rattle.securities.proofs.Opened.{openedSecurities}
+use Rattle.book.specs.Book.{word, position, balanceAt, layout}
+use Rattle.book.specs.Loans.{increasing, decreasing, bySender, byReceiver, changeOf, changed, aboveBalance, pastLimit, loanCauses}
+use Rattle.book.specs.Soundness.{wrongLength, badDay, goodBalance, goodBalancesFrom, badBalances, tableCauses, bookCauses, openingCauses}
+
+unfoldable pub openedBook : ℕ
+unfolding openedRecords openedSecurities word position balanceAt layout increasing decreasing bySender byReceiver changeOf changed aboveBalance pastLimit loanCauses wrongLength badDay goodBalance goodBalancesFrom badBalances tableCauses bookCauses openingCauses
+openedBook = 0

@@ -1,0 +1,14 @@
+-- The definitions of this crate and of those below it that computed rows open, under one name.
+use Prim.Native.Nat.{ℕ}
+use Rattle.claims.proofs.Opened.{openedClaims}
+use Rattle.book.proofs.Opened.{openedBook}
+use Rattle.history.specs.Calls.{bufferOf, claimsOf}
+use Rattle.history.specs.Causes.{recordCauses, outOfRange, fieldCauses, countCauses, lastDayCauses, roomCauses, transferCauses, callCauses, causes, numberFor, openingNumber}
+use Rattle.history.specs.Results.{nextBook, nextBalances, resultFor, result, openedFor, opened, run, runFrom}
+use Rattle.history.specs.Ledger.{started, isIncrease, isDecrease, increasedBy, decreasedBy, increases, decreases, parLent, transferCount, transfers, bookOf, balancesOf, numberOn, dayAfter, keep, answerFor, judged}
+use Rattle.history.specs.Owed.{amounts, isFailed, lentBy, owedBy, owed}
+use Rattle.history.specs.Statement.{recordsIn, centsIn, counts, paidIn, paid}
+
+unfoldable pub openedHistory : ℕ
+unfolding openedClaims openedBook bufferOf claimsOf recordCauses outOfRange fieldCauses countCauses lastDayCauses roomCauses transferCauses callCauses causes numberFor openingNumber nextBook nextBalances resultFor result openedFor opened run runFrom started isIncrease isDecrease increasedBy decreasedBy increases decreases parLent transferCount transfers bookOf balancesOf numberOn dayAfter keep answerFor judged amounts isFailed lentBy owedBy owed recordsIn centsIn counts paidIn paid
+openedHistory = 0
