@@ -1,37 +1,23 @@
 -- The cases marked P, the mistakes that document 01 rules out, and a list of calls, each as a row: an opening, calls with real message
--- bytes, and every answer written out. One theorem covers all rows, run on the stored book and judged by the ledger, at full size: 480
--- words of calendar, 1,824 of tables, 4,096 balances.
+-- bytes, and every answer written out. One theorem covers all rows, run on the stored book, at full size: 480 words of calendar, 1,824 of
+-- tables, 4,096 balances. A second one computes the ledger of a list of four calls; that run and ledger agree on every list is
+-- `every-history`.
 use mathlib.Core.Path.{_≡_, refl}
 use mathlib.Core.Bool.{Bool, true, false, _&&_}
 use mathlib.Core.List.{List, [], _∷_, _++_}
 use Prim.Native.Nat.{ℕ, _+_, _/_, _%_}
 use lib.Dec.{eqb}
 use lib.ListN.{getD, replicate}
-use Rattle.lists.specs.Tests.{below}
 use Rattle.lists.specs.All.{all}
-use Rattle.lists.specs.Numbers.{bytesOf, numberOf}
-use Rattle.lists.specs.Fields.{total, encode, decode}
-use Rattle.lists.specs.First.{firstOf}
-use Rattle.lists.specs.Sums.{sum}
-use Rattle.lists.specs.Select.{select, lastOf}
-use Rattle.lists.specs.Tabulate.{tabulate, each, eachOf}
-use Rattle.days.specs.Days.{leapDay, monthLength, isDate, wordOf, dateOf, lengthOf, bitOn, badFrom, badCalendar, isOpen, lowestFrom, seekFrom, openAt, openAfter, openFrom, highestBelow, lastBelow, lastOpen}
-use Rattle.days.specs.Weekdays.{isWeekday, weekdayWord, weekdaysFrom, weekdays}
-use Rattle.records.specs.MessageRecords.{transferKind, closeKind, claimKind, size, recordBytes, claimValues, transferOf, firstLine, secondLine, header, headed, reads}
-use Rattle.securities.specs.Securities.{securityOf, typeOf, frequencyOf, Row, rowOf, rowsFrom, rowsOf, isEmpty, isFilled, filledRows, goodRow, goodRows, goodSecurity, goodTables}
+use Rattle.days.specs.Weekdays.{weekdays}
+use Rattle.securities.specs.Securities.{Row}
 use Rattle.securities.specs.Cases.{caseTables}
-use Rattle.tags.specs.ContractDateTag.{opener, same, tagged, openersFrom, openers, endIn, endFrom, isDigit, digitsAfter, digitsNumber, writesDate, tagHolding, tagAt, tagOf, contractDate, isSeveral, isUnended, isNotDate, editCauses}
-use Rattle.claims.specs.Amounts.{centsOn, amount, outcomeOf, isLate, releaseOf, isEarly, slotOf, claimOn}
-use Rattle.claims.specs.Fails.{messageTag, maximumNumbers, maximumFor, eligibleIn, eligible, fails, dues, transferParties, transferClaims}
-use Rattle.claims.specs.Close.{crosses, crossed, loanParties, loanClaim, securityBalances, lenderBalances, rowClaims, closeClaims}
-use Rattle.claims.specs.Written.{claimBytes, bytesOfAll, written}
-use Rattle.book.specs.Book.{word, position, balanceAt, layout}
-use Rattle.book.specs.Loans.{increasing, decreasing, bySender, byReceiver, changeOf, changed, aboveBalance, pastLimit, loanCauses}
-use Rattle.book.specs.Soundness.{wrongLength, badDay, goodBalance, goodBalancesFrom, badBalances, tableCauses, bookCauses, openingCauses}
-use Rattle.history.specs.Calls.{Call, transfer, close, bufferOf, claimsOf}
-use Rattle.history.specs.Causes.{recordCauses, outOfRange, fieldCauses, countCauses, lastDayCauses, roomCauses, transferCauses, callCauses, causes, numberFor, openingNumber}
-use Rattle.history.specs.Results.{Answer, nextBook, nextBalances, resultFor, result, openedFor, opened, Run, run, runFrom}
-use Rattle.history.specs.Ledger.{started, isIncrease, isDecrease, increasedBy, decreasedBy, increases, decreases, parLent, transferCount, transfers, bookOf, balancesOf, numberOn, dayAfter, keep, answerFor, judged}
+use Rattle.claims.specs.Amounts.{ofInterest, ofPrincipal, amount, failType, outcomeOf}
+use Rattle.history.specs.Calls.{Call, transfer, close}
+use Rattle.history.specs.Results.{Answer, opened, runFrom}
+use Rattle.history.specs.Ledger.{Entry, started, balancesOf, judged}
+use Rattle.history.specs.Owed.{owed}
+use Rattle.history.proofs.Opened.{openedHistory}
 
 -- ---- messages
 
@@ -323,33 +309,75 @@ sameAnswers (a ∷ rest) (b ∷ bs) =
     eqb (a .number) (b .number) && eqb (a .book .day) (b .book .day) && eqb (a .book .count) (b .book .count)
     && eqb (a .claims) (b .claims) && sameBytes (a .buffer) (b .buffer) && sameAnswers rest bs
 
--- the run and the ledger give the answers, and the balances after the run and the ledger's hold the words
-runs : Case → Run → Bool
-runs c r = sameAnswers (r .answers) (c .answers) && all (λ w. eqb (getD (r .balances) (w .index) 0) (w .value)) (c .held)
+-- words of balances and what they hold
+hold : List ℕ → List Word → Bool
+hold balances = all (λ w. eqb (getD balances (w .index) 0) (w .value))
 
+-- the run gives the answers, and the balances after it hold the words
 holds : Case → Bool
 holds c =
     let start = opened weekdays (c .tables) (replicate 4096 7) (c .day) in
-    let judgement = judged weekdays (c .tables) (started (c .day)) (c .calls) in
-    eqb (start .number) 0
-    && runs c (runFrom weekdays (c .tables) start (c .calls))
-    && sameAnswers (judgement .answers) (c .answers)
-    && all (λ w. eqb (getD (balancesOf (judgement .ledger)) (w .index) 0) (w .value)) (c .held)
+    let r = runFrom weekdays (c .tables) start (c .calls) in
+    eqb (start .number) 0 && sameAnswers (r .answers) (c .answers) && hold (r .balances) (c .held)
 
 -- P, the amount rule alone: par 1: 1 cent; with interest factor 4,999,999: 0 cents, outcome 1
 april : ℕ → Row
 april factor =
     record { index = 0; recordDate = 20230401; beneficiaryDate = 20230401; paymentDate = 20230415; interestFactor = factor; principalFactor = 0; final = 0; mask = 0 }
 
-amounts : Bool
-amounts =
-    eqb (centsOn 1 5000000) 1
-    && eqb (outcomeOf 1 1 (april 5000000) (centsOn 1 5000000) (centsOn 1 0)) 0
-    && eqb (centsOn 1 4999999) 0
-    && eqb (outcomeOf 1 1 (april 4999999) (centsOn 1 4999999) (centsOn 1 0)) 1
+-- the cents of interest on par 1, and the outcome of a fail
+onOne : ℕ → ℕ → ℕ → Bool
+onOne factor cents outcome =
+    let row = april factor in
+    eqb (amount ofInterest 1 row) cents && eqb (outcomeOf failType 1 row (amount ofInterest 1 row) (amount ofPrincipal 1 row)) outcome
 
--- ---- every row holds
+amounts : Bool
+amounts = onOne 5000000 1 0 && onOne 4999999 0 1
+
+-- ---- the ledger of a list
+
+-- a fail, a start, a return above the balance and the close that crosses May's Record Date
+listed : Case
+listed =
+    record {
+      tables = caseTables;
+      day = 20230428;
+      calls =
+          sent 3 4 0 200000 (tagLine 20230315) 40
+          ∷ sent 1 2 1 50000 blank 5
+          ∷ sent 2 1 3 50001 blank 5
+          ∷ closed 40
+          ∷ [];
+      answers =
+          answer 0 20230428 1 1 (33 ∷ 0 ∷ 3 ∷ 0 ∷ 1 ∷ 0 ∷ 3 ∷ 4 ∷ 0 ∷ 0 ∷ 1 ∷ 0 ∷ 0 ∷ 0 ∷ 160 ∷ 134 ∷ 1 ∷ 0 ∷ 0 ∷ 0 ∷ 0 ∷ 0 ∷ 0 ∷ 0 ∷ 0 ∷ 0 ∷ 0 ∷ 0 ∷ 0 ∷ 0 ∷ 101 ∷ 177 ∷ 52 ∷ 1 ∷ 2
+          ∷ 170 ∷ 170 ∷ 170 ∷ 170 ∷ 170 ∷ [])
+          ∷ answer 0 20230428 2 0 (170 ∷ 170 ∷ 170 ∷ 170 ∷ 170 ∷ [])
+          ∷ answer 7 20230428 2 0 (170 ∷ 170 ∷ 170 ∷ 170 ∷ 170 ∷ [])
+          ∷ answer 0 20230501 2 1 (33 ∷ 0 ∷ 3 ∷ 0 ∷ 3 ∷ 0 ∷ 2 ∷ 1 ∷ 0 ∷ 1 ∷ 0 ∷ 0 ∷ 0 ∷ 0 ∷ 168 ∷ 97 ∷ 0 ∷ 0 ∷ 0 ∷ 0 ∷ 0 ∷ 0 ∷ 0 ∷ 0 ∷ 0 ∷ 0 ∷ 0 ∷ 0 ∷ 0 ∷ 0 ∷ 115 ∷ 177 ∷ 52 ∷ 1 ∷ 3
+          ∷ 170 ∷ 170 ∷ 170 ∷ 170 ∷ 170 ∷ [])
+          ∷ [];
+      held = word-of 18 50000 ∷ word-of 33 0 ∷ [];
+    }
+
+-- the interest that the history owes a payee from a payer in security 0
+owes : List Entry → ℕ → ℕ → ℕ → Bool
+owes es payer payee cents =
+    eqb (owed weekdays caseTables ofInterest (λ row. true) es (record { security = 0; payee = payee; payer = payer })) cents
+
+-- the ledger gives the answers, its balances hold the words, and it owes April's coupon to the buyer and May's to the lender
+kept : Case → Bool
+kept c =
+    let j = judged weekdays (c .tables) (started (c .day)) (c .calls) in
+    let es = j .ledger .entries in
+    sameAnswers (j .answers) (c .answers) && hold (balancesOf (j .ledger)) (c .held)
+    && owes es 3 4 100000 && owes es 4 3 0 && owes es 2 1 25000 && owes es 1 2 0
+
+-- ---- every row holds, and the list's ledger
 
 cases-hold : all holds cases && amounts ≡ true
-unfolding digits tagLine blank found sent closed annualTables cases sameBytes sameAnswers runs holds april amounts below all bytesOf numberOf total encode decode firstOf sum select lastOf tabulate each eachOf leapDay monthLength isDate wordOf dateOf lengthOf bitOn badFrom badCalendar isOpen lowestFrom seekFrom openAt openAfter openFrom highestBelow lastBelow lastOpen isWeekday weekdayWord weekdaysFrom weekdays transferKind closeKind claimKind size recordBytes claimValues transferOf firstLine secondLine headed header reads securityOf typeOf frequencyOf rowOf rowsFrom rowsOf isEmpty isFilled filledRows goodRow goodRows goodSecurity goodTables caseTables opener same tagged openersFrom openers endIn endFrom isDigit digitsAfter digitsNumber writesDate tagHolding tagAt tagOf contractDate isSeveral isUnended isNotDate editCauses centsOn amount outcomeOf isLate releaseOf isEarly slotOf claimOn messageTag maximumNumbers maximumFor eligibleIn eligible fails dues transferParties transferClaims crosses crossed loanParties loanClaim securityBalances lenderBalances rowClaims closeClaims claimBytes bytesOfAll written word position balanceAt layout increasing decreasing bySender byReceiver changeOf changed aboveBalance pastLimit wrongLength badDay goodBalance goodBalancesFrom badBalances tableCauses bookCauses openingCauses bufferOf claimsOf recordCauses outOfRange fieldCauses countCauses loanCauses lastDayCauses roomCauses transferCauses callCauses causes numberFor openingNumber nextBook nextBalances resultFor result openedFor opened run runFrom started isIncrease isDecrease increasedBy decreasedBy increases decreases parLent transferCount transfers bookOf balancesOf numberOn dayAfter keep answerFor judged
+unfolding openedHistory digits tagLine blank found sent closed annualTables cases sameBytes sameAnswers hold holds april onOne amounts
 cases-hold = refl
+
+ledger-holds : kept listed ≡ true
+unfolding openedHistory digits tagLine blank found sent closed listed sameBytes sameAnswers hold owes kept
+ledger-holds = refl
