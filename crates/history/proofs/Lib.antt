@@ -9,3 +9,4 @@ pub mod Rows
 pub mod Answers
 pub mod StaysSound
 pub mod ByValue
+pub mod Continuation

@@ -14,7 +14,7 @@ use Rattle.claims.proofs.Crossed.{crosses-words}
 use Rattle.book.proofs.Judged.{kept}
 use Rattle.history.specs.Calls.{Call, transfer, close}
 use Rattle.history.specs.Causes.{numberFor}
-use Rattle.history.specs.Ledger.{Ledger, started, bookOf, balancesOf, dayAfter, keep, numberOn, judged}
+use Rattle.history.specs.Ledger.{Entry, Ledger, started, bookOf, balancesOf, dayAfter, keep, numberOn, judged}
 use Rattle.history.specs.Statement.{crossingsOf, crossings, CrossedOnce}
 use Rattle.history.proofs.Accepted.{closed}
 use Rattle.history.proofs.Simulation.{Accepts}
@@ -44,11 +44,18 @@ pub record Passed (calendar : List ℕ) (start : ℕ) (t : Ledger) (row : Row) :
   pub later : start ≤ t .day
   pub crossed-once : CrossedOnce calendar start t row
 
+-- entries and that of a call, if it is accepted
+unfoldable pub withEntry : ℕ → Ledger → Call → List Entry → List Entry
+withEntry zero t call es = record { day = t .day; call = call } ∷ es
+withEntry (suc n) t call es = es
+
 module _ (calendar tables : List ℕ) (start : ℕ) (row : Row) where
-  passed-step : (t : Ledger) (call : Call) (n : ℕ) → Accepts calendar tables t call n
-      → Passed calendar start t row → Passed calendar start (keep n calendar t call) row
-  unfolding keep dayAfter crossings crossingsOf bookOf sum
-  passed-step t (transfer a) zero e h =
+  -- a call of a ledger, with any entries counted up to it
+  pub passed-step : (t : Ledger) (es : List Entry) (call : Call) (n : ℕ) → Accepts calendar tables t call n
+      → Passed calendar start (record { day = t .day; entries = es }) row
+      → Passed calendar start (record { day = keep n calendar t call .day; entries = withEntry n t call es }) row
+  unfolding keep withEntry dayAfter crossings crossingsOf bookOf sum
+  passed-step t es (transfer a) zero e h =
       let c = h .crossed-once in
       record {
         later = h .later;
@@ -58,7 +65,7 @@ module _ (calendar tables : List ℕ) (start : ℕ) (row : Row) where
           late = λ x. omega (arith, c .late x);
         };
       }
-  passed-step t (close a) zero e h =
+  passed-step t es (close a) zero e h =
       let k = closed calendar tables (bookOf t) (balancesOf t) a (e refl) .sound in
       let d = k .day-sound in
       let next = after-later (kept (k .tables-sound)) (t .day) (open-date calendar (t .day) (d .open-day)) (d .next-day) in
@@ -76,18 +83,30 @@ module _ (calendar tables : List ℕ) (start : ℕ) (row : Row) where
           late = λ x. omega (arith, c .late (omega arith), f .after x);
         };
       }
-  passed-step t call (suc n) e h = h
+  passed-step t es call (suc n) e h = h
+
+  -- all entries of the ledger
+  passed-kept : (t : Ledger) (call : Call) (n : ℕ) → Accepts calendar tables t call n
+      → Passed calendar start t row → Passed calendar start (keep n calendar t call) row
+  unfolding keep withEntry
+  passed-kept t call zero e h = passed-step t (t .entries) call zero e h
+  passed-kept t call (suc n) e h = h
 
   pub passed : (calls : List Call) (t : Ledger) → Passed calendar start t row → Passed calendar start (judged calendar tables t calls .ledger) row
   unfolding judged numberOn
   passed [] t h = h
   passed (call ∷ calls) t h =
       let n = numberFor calendar tables (bookOf t) (balancesOf t) call in
-      passed calls (keep n calendar t call) (passed-step t call n (λ z. z) h)
+      passed calls (keep n calendar t call) (passed-kept t call n (λ z. z) h)
 
-  pub passed-started : Passed calendar start (started start) row
-  unfolding started crossings sum
-  passed-started = record {
+  -- no entries, from a day on
+  pub passed-none : Passed calendar start (record { day = start; entries = [] }) row
+  unfolding crossings sum
+  passed-none = record {
     later = omega arith;
     crossed-once = record { within = λ x y. absurd (omega arith); early = λ x. refl; late = λ x. refl };
   }
+
+  pub passed-started : Passed calendar start (started start) row
+  unfolding started
+  passed-started = passed-none

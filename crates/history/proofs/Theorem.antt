@@ -67,7 +67,7 @@ module _ (calendar tables : List ℕ) where
       rw (readings-written claims (bufferOf call) (fit-claims (bookOf t) (balancesOf t) call e)) (all-read claims)
   read-step t call (suc n) e = unfold readings in tt
 
-  read-all : (calls : List Call) (t : Ledger) → AllRead (recordsIn (judged calendar tables t calls .answers))
+  pub read-all : (calls : List Call) (t : Ledger) → AllRead (recordsIn (judged calendar tables t calls .answers))
   unfolding judged recordsIn numberOn
   read-all [] t = tt
   read-all (call ∷ calls) t =
@@ -94,7 +94,7 @@ module _ (calendar tables : List ℕ) where
       }
   found-step t call (suc n) e = record { size = refl; behind = refl }
 
-  found-all : (calls : List Call) (t : Ledger) → AllAsFound calls (judged calendar tables t calls .answers)
+  pub found-all : (calls : List Call) (t : Ledger) → AllAsFound calls (judged calendar tables t calls .answers)
   unfolding judged numberOn
   found-all [] t = tt
   found-all (call ∷ calls) t =
@@ -154,7 +154,7 @@ module _ (calendar tables : List ℕ) where
     unfolding paid
     paid-append rs ss = sum-append (paidIn part rowTest x) rs ss
 
-    paid-all : (calls : List Call) (t : Ledger) → Inside (t .entries)
+    pub paid-all : (calls : List Call) (t : Ledger) → Inside (t .entries)
         → paid part rowTest (recordsIn (judged calendar tables t calls .answers)) x + owed calendar tables part rowTest (t .entries) x
         ≡ owed calendar tables part rowTest (judged calendar tables t calls .ledger .entries) x
     unfolding judged recordsIn numberOn
@@ -175,7 +175,7 @@ module _ (calendar tables : List ℕ) where
   unfolding started owed
   nothing-owed part rowTest day x n = omega arith
 
-  started-inside : (day : ℕ) → Inside (started day .entries)
+  pub started-inside : (day : ℕ) → Inside (started day .entries)
   unfolding started increases sum
   started-inside day p k = absurd (omega arith)
 
@@ -187,17 +187,17 @@ module _ (calendar tables : List ℕ) where
 
   -- ---- from the opening on
 
-  started-book : (day : ℕ) → record { day = day; count = 0 } ≡ bookOf (started day)
+  pub started-book : (day : ℕ) → record { day = day; count = 0 } ≡ bookOf (started day)
   unfolding bookOf started transfers sum
   started-book day = refl
 
-  started-balances : (day : ℕ) → replicate 4096 0 ≡ balancesOf (started day)
+  pub started-balances : (day : ℕ) → replicate 4096 0 ≡ balancesOf (started day)
   unfolding balancesOf started
   started-balances day =
       is-layout (parLent []) (replicate 4096 0) (length-replicate {A = ℕ} 4096 0)
       (λ p r. unfold balanceAt parLent increases decreases sum in getD-replicate 4096 (word p) 0 0 (word-bound p r))
 
-  started-covered : (day : ℕ) → Covered (started day .entries)
+  pub started-covered : (day : ℕ) → Covered (started day .entries)
   unfolding started increases decreases sum
   started-covered day p = omega arith
 
@@ -207,7 +207,7 @@ module _ (calendar tables : List ℕ) where
   not-kept (suc n) t call d = refl
 
   -- the word of a position holds its par
-  stored-lent : (balances : List ℕ) (es : List Entry) (p : Position) → InRange p → balances ≡ layout (parLent es) → decreases es p ≤ increases es p
+  pub stored-lent : (balances : List ℕ) (es : List Entry) (p : Position) → InRange p → balances ≡ layout (parLent es) → decreases es p ≤ increases es p
       → getD balances (256 * p .security + 16 * p .lender + p .borrower) 0 + decreases es p ≡ increases es p
   unfolding parLent
   stored-lent balances es p k e h =

@@ -5,3 +5,4 @@ pub mod Ledger
 pub mod Owed
 pub mod Statement
 pub mod ByValue
+pub mod Continuation
