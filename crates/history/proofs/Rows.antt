@@ -1,5 +1,5 @@
--- Computed rows: the number of a call where two neighbouring causes apply, each by its own, and where none does, at full size; and the
--- answers of a list of calls with all their bytes.
+-- Computed rows: the number of a call where two neighbouring causes apply, each by its own, and where none does, at full size; the
+-- answers of a list of calls with all their bytes; and a list whose tables change on the way.
 use mathlib.Core.Path.{_≡_, refl}
 use mathlib.Core.Bool.{Bool, true, false, _&&_}
 use mathlib.Core.List.{List, [], _∷_, _++_}
@@ -12,7 +12,11 @@ use Rattle.days.specs.Weekdays.{weekdays}
 use Rattle.securities.specs.Cases.{caseTables}
 use Rattle.history.specs.Calls.{Call, transfer, close}
 use Rattle.history.specs.Causes.{numberFor}
-use Rattle.history.specs.Results.{Answer, opened, runFrom}
+use Rattle.claims.specs.Amounts.{ofInterest, Parties}
+use Rattle.history.specs.Results.{Answer, opened, run, runFrom}
+use Rattle.history.specs.Ledger.{started, balancesOf, judged}
+use Rattle.history.specs.Statement.{recordsIn, paid}
+use Rattle.history.specs.Continuation.{owedSince}
 use Rattle.history.proofs.Opened.{openedHistory}
 
 -- ---- messages
@@ -247,6 +251,43 @@ history =
     sameNumbers (answered (r .answers)) expected && eqb (r .book .day) 20230404 && eqb (r .book .count) 4
     && sameNumbers (r .balances) (set zeros 18 25000)
 
+-- ---- tables that change
+
+-- the next payment of the security, as its first row
+laterTables : List ℕ
+laterTables = (3 ∷ 1 ∷ 20230404 ∷ 20230404 ∷ 20230417 ∷ 10000000 ∷ []) ++ replicate 1818 0
+
+-- a loan and the close that crosses the first tables' Record Date; then, with the later tables, a failed transfer and the next close
+firstCalls : List Call
+firstCalls = onSevens (sent 1 1 2 0 0 1 40000 blank 36) ∷ onSevens (closing 2 36) ∷ []
+
+laterCalls : List Call
+laterCalls = onSevens (sent 1 3 4 0 0 0 200000 (tagLine 20230329) 36) ∷ onSevens (closing 2 36) ∷ []
+
+laterAnswers : List ℕ
+laterAnswers =
+    (0 ∷ 20230403 ∷ 2 ∷ 0 ∷ [])
+    ++ (found
+    ++ (0 ∷ 20230404 ∷ 2 ∷ 1 ∷ 33 ∷ 0 ∷ 3 ∷ 0 ∷ 3 ∷ 0 ∷ 2 ∷ 1 ∷ 0 ∷ 0 ∷ 0 ∷ 0 ∷ 0 ∷ 0 ∷ 64 ∷ 156 ∷ 0 ∷ 0 ∷ 0 ∷ 0 ∷ 0 ∷ 0 ∷ 0 ∷ 0 ∷ 0 ∷ 0 ∷ 0 ∷ 0 ∷ 0 ∷ 0 ∷ 17 ∷ 177 ∷ 52 ∷ 1 ∷ 3 ∷ 7 ∷ []))
+
+-- from account 2 to account 1 in security 0
+borrowerToLender : Parties
+borrowerToLender = record { security = 0; payee = 1; payer = 2 }
+
+-- the later calls pay and owe the later coupon on the par of the loan before them, and not the earlier coupon again
+periods : Bool
+periods =
+    let start = opened weekdays apartTables sevens 20230331 in
+    let r = runFrom weekdays apartTables start firstCalls in
+    let later = run weekdays laterTables (r .book) (r .balances) laterCalls in
+    let before = judged weekdays apartTables (started 20230331) firstCalls .ledger in
+    let after = judged weekdays laterTables before laterCalls .ledger in
+    sameNumbers (answered (later .answers)) laterAnswers
+    && eqb (paid ofInterest (λ row. true) (recordsIn (later .answers)) borrowerToLender) 40000
+    && eqb (owedSince weekdays laterTables ofInterest (λ row. true) (before .entries) (take 2 (after .entries)) borrowerToLender) 40000
+    && eqb (paid ofInterest (λ row. true) (recordsIn (r .answers)) borrowerToLender) 20000
+    && sameNumbers (balancesOf after) (later .balances) && sameNumbers (later .balances) (set zeros 18 40000)
+
 -- ---- the theorems
 
 -- what both theorems open
@@ -261,3 +302,7 @@ rows-hold = refl
 history-holds : history ≡ true
 unfolding opens apartTables onSevens calls answered found expected sameNumbers history
 history-holds = refl
+
+periods-hold : periods ≡ true
+unfolding opens apartTables laterTables onSevens firstCalls laterCalls answered found laterAnswers borrowerToLender sameNumbers periods
+periods-hold = refl
