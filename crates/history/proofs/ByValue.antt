@@ -1,5 +1,5 @@
--- A list of by-value calls that keep their contracts runs as the definitions do, so the theorem about every list of calls holds of it; and
--- every list of calls has such steps.
+-- A list of by-value calls that keep their contracts runs as the definitions do, so the theorems about every list of calls hold of it;
+-- and every list of calls has such steps.
 use mathlib.Core.Path.{_≡_, refl, sym, ap, _∙_, subst}
 use mathlib.Core.List.{List, [], _∷_}
 use Prim.Native.Nat.{ℕ}
@@ -7,10 +7,12 @@ use Rattle.book.specs.declared.Book.{Book}
 use Rattle.book.specs.declared.Done.{Done}
 use Rattle.history.specs.Calls.{Call}
 use Rattle.history.specs.Results.{Result, Run, Opened, left, result, leftOpen, opened, run, runFrom}
-use Rattle.history.specs.Ledger.{started, judged}
+use Rattle.history.specs.Ledger.{started, bookOf, balancesOf, judged}
 use Rattle.history.specs.Statement.{AgreesWithLedger}
-use Rattle.history.specs.ByValue.{Step, AllKeep, stepFor, stepsOf, EveryListHasSteps, runOf, EveryByValueHistory}
+use Rattle.history.specs.Continuation.{GoesOn}
+use Rattle.history.specs.ByValue.{Step, AllKeep, stepFor, stepsOf, EveryListHasSteps, runOf, EveryByValueHistory, EveryByValueContinuation}
 use Rattle.history.proofs.Theorem.{every-history}
+use Rattle.history.proofs.Continuation.{every-continuation}
 
 -- a run that goes on from an answer
 from : Result → Run → Run
@@ -48,3 +50,9 @@ every-by-value-history calendar tables balances day start cleared e accepted cal
     subst (λ r. AgreesWithLedger calendar tables day calls r (judged calendar tables (started day) calls))
     (sym (runs-from calendar tables start cleared (opened calendar tables balances day) calls steps all e))
     (every-history calendar tables balances day (sym (ap (λ (o : Opened). o .number) e) ∙ accepted) calls)
+
+pub every-by-value-continuation : EveryByValueContinuation
+every-by-value-continuation calendar tables before k calls steps all =
+    subst (λ r. GoesOn calendar tables before calls r (judged calendar tables before calls))
+    (sym (runs-alike calendar tables (bookOf before) (balancesOf before) calls steps all))
+    (every-continuation calendar tables before k calls)

@@ -8,5 +8,5 @@ pub mod Theorem
 pub mod Rows
 pub mod Answers
 pub mod StaysSound
-pub mod ByValue
 pub mod Continuation
+pub mod ByValue

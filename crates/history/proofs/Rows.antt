@@ -290,19 +290,19 @@ periods =
 
 -- ---- the theorems
 
--- what both theorems open
-unfoldable opens : ℕ
+-- what the theorems open
+unfoldable openedRows : ℕ
 unfolding openedHistory tag line tagLine blank twoTags openTag badTag sent closing zeros sevens
-opens = 0
+openedRows = 0
 
 rows-hold : openings && all (λ r. eqb (numberFor (r .calendar) (r .tables) (r .book) (r .balances) (r .call)) (r .number)) rows ≡ true
-unfolding opens held near lastTables lateTables rows opening openings
+unfolding openedRows held near lastTables lateTables rows opening openings
 rows-hold = refl
 
 history-holds : history ≡ true
-unfolding opens apartTables onSevens calls answered found expected sameNumbers history
+unfolding openedRows apartTables onSevens calls answered found expected sameNumbers history
 history-holds = refl
 
 periods-hold : periods ≡ true
-unfolding opens apartTables laterTables onSevens firstCalls laterCalls answered found laterAnswers borrowerToLender sameNumbers periods
+unfolding openedRows apartTables laterTables onSevens firstCalls laterCalls answered found laterAnswers borrowerToLender sameNumbers periods
 periods-hold = refl

@@ -1,5 +1,5 @@
 -- Lists of by-value calls, as a caller makes them. Opening, transfer and close each keep their contract, every call on the book that the
--- last one returned and the balances that it left. Demand 3 holds of every such list.
+-- last one returned and the balances that it left. Demand 3 holds of every such list, and a history goes on by every such list.
 use mathlib.Core.Path.{_≡_}
 use mathlib.Core.List.{List, [], _∷_}
 use Prim.Native.Nat.{ℕ}
@@ -7,8 +7,9 @@ use Rattle.book.specs.declared.Book.{Book}
 use Rattle.book.specs.declared.Done.{Done}
 use Rattle.history.specs.Calls.{Call}
 use Rattle.history.specs.Results.{Result, Run, left, result, leftOpen, opened}
-use Rattle.history.specs.Ledger.{started, judged}
+use Rattle.history.specs.Ledger.{Ledger, started, bookOf, balancesOf, judged}
 use Rattle.history.specs.Statement.{AgreesWithLedger}
+use Rattle.history.specs.Continuation.{SoundLedger, GoesOn}
 
 -- A call of a list: what it answers, and the claim buffer and balances after it.
 pub record Step : Type 0 where
@@ -60,3 +61,9 @@ EveryByValueHistory = (calendar tables balances : List ℕ) (day : ℕ) (start :
     → leftOpen start cleared ≡ opened calendar tables balances day → start .number ≡ 0 → (calls : List Call) (steps : List Step)
     → AllKeep calendar tables (start .book) cleared calls steps
     → AgreesWithLedger calendar tables day calls (runOf (start .book) cleared steps) (judged calendar tables (started day) calls)
+
+-- So from a sound ledger on: calls that keep their contracts, the first on the ledger's book and balances, go on as the ledger does.
+abbrev pub EveryByValueContinuation : Type 0
+EveryByValueContinuation = (calendar tables : List ℕ) (before : Ledger) → SoundLedger before → (calls : List Call) (steps : List Step)
+    → AllKeep calendar tables (bookOf before) (balancesOf before) calls steps
+    → GoesOn calendar tables before calls (runOf (bookOf before) (balancesOf before) steps) (judged calendar tables before calls)

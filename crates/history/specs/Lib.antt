@@ -4,5 +4,5 @@ pub mod Results
 pub mod Ledger
 pub mod Owed
 pub mod Statement
-pub mod ByValue
 pub mod Continuation
+pub mod ByValue
