@@ -92,7 +92,7 @@ every-continuation calendar tables before k calls =
       buffers = rw (f .answers) (found-all calendar tables calls before);
       book = f .book;
       balances = f .balances;
-      lent = λ p h. stored-lent calendar tables _ (j .ledger .entries) p h (f .balances) (f .covered p);
+      lent = λ p h. omega (arith, stored-lent calendar tables _ (j .ledger .entries) p h (f .balances) (f .covered p));
       readable = rw (f .answers) (read-all calendar tables calls before);
       row-payments = λ part x row.
           pays-since calendar tables part (eqb row) (before .entries) x _ s (j .ledger .entries) g
@@ -101,7 +101,12 @@ every-continuation calendar tables before k calls =
           pays-since calendar tables part (λ row. true) (before .entries) x _ s (j .ledger .entries) g
           (rw (f .answers) (paid-all calendar tables part (λ row. true) x calls before (k .inside)));
       crossed-once = λ row.
-          since-passed calendar tables (before .day) row calls before [] (passed-none calendar tables (before .day) row) .crossed-once;
+          let c = since-passed calendar tables (before .day) row calls before [] (passed-none calendar tables (before .day) row) .crossed-once in
+          record {
+            within = λ x y. c .within (omega arith) (omega arith);
+            early = λ x. c .early (omega arith);
+            late = λ x. c .late (omega arith);
+          };
     }
 
 -- ---- calendar and tables that change
