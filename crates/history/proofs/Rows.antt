@@ -14,7 +14,7 @@ use Rattle.history.specs.Calls.{Call, transfer, close}
 use Rattle.history.specs.Causes.{numberFor}
 use Rattle.claims.specs.Amounts.{ofInterest, Parties}
 use Rattle.history.specs.Results.{Answer, opened, run, runFrom}
-use Rattle.history.specs.Ledger.{started, balancesOf, judged}
+use Rattle.history.specs.Ledger.{Entry}
 use Rattle.history.specs.Statement.{recordsIn, paid}
 use Rattle.history.specs.Continuation.{owedSince}
 use Rattle.history.proofs.Opened.{openedHistory}
@@ -274,19 +274,21 @@ laterAnswers =
 borrowerToLender : Parties
 borrowerToLender = record { security = 0; payee = 1; payer = 2 }
 
+-- the entries of calls, the latest first
+entries : ℕ → List Call → List Entry
+entries day [] = []
+entries day (call ∷ calls) = entries day calls ++ (record { day = day; call = call } ∷ [])
+
 -- the later calls pay and owe the later coupon on the par of the loan before them, and not the earlier coupon again
 periods : Bool
 periods =
-    let start = opened weekdays apartTables sevens 20230331 in
-    let r = runFrom weekdays apartTables start firstCalls in
+    let r = runFrom weekdays apartTables (opened weekdays apartTables sevens 20230331) firstCalls in
     let later = run weekdays laterTables (r .book) (r .balances) laterCalls in
-    let before = judged weekdays apartTables (started 20230331) firstCalls .ledger in
-    let after = judged weekdays laterTables before laterCalls .ledger in
-    sameNumbers (answered (later .answers)) laterAnswers
-    && eqb (paid ofInterest (λ row. true) (recordsIn (later .answers)) borrowerToLender) 40000
-    && eqb (owedSince weekdays laterTables ofInterest (λ row. true) (before .entries) (take 2 (after .entries)) borrowerToLender) 40000
+    sameNumbers (answered (later .answers)) laterAnswers && sameNumbers (later .balances) (set zeros 18 40000)
     && eqb (paid ofInterest (λ row. true) (recordsIn (r .answers)) borrowerToLender) 20000
-    && sameNumbers (balancesOf after) (later .balances) && sameNumbers (later .balances) (set zeros 18 40000)
+    && eqb (paid ofInterest (λ row. true) (recordsIn (later .answers)) borrowerToLender) 40000
+    && eqb
+    (owedSince weekdays laterTables ofInterest (λ row. true) (entries 20230331 firstCalls) (entries 20230403 laterCalls) borrowerToLender) 40000
 
 -- ---- the theorems
 
@@ -304,5 +306,5 @@ unfolding openedRows apartTables onSevens calls answered found expected sameNumb
 history-holds = refl
 
 periods-hold : periods ≡ true
-unfolding openedRows apartTables laterTables onSevens firstCalls laterCalls answered found laterAnswers borrowerToLender sameNumbers periods
+unfolding openedRows apartTables laterTables onSevens firstCalls laterCalls answered found laterAnswers borrowerToLender entries sameNumbers periods
 periods-hold = refl
