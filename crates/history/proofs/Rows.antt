@@ -6,13 +6,13 @@ use mathlib.Core.List.{List, [], _∷_, _++_}
 use Prim.Native.Nat.{ℕ, _+_, _/_, _%_}
 use lib.Dec.{eqb}
 use lib.ListN.{length, replicate, set, take}
-use Rattle.book.specs.declared.Book.{Book}
 use Rattle.lists.specs.All.{all}
 use Rattle.days.specs.Weekdays.{weekdays}
 use Rattle.securities.specs.Cases.{caseTables}
+use Rattle.claims.specs.Amounts.{ofInterest, Parties}
+use Rattle.book.specs.declared.Book.{Book}
 use Rattle.history.specs.Calls.{Call, transfer, close}
 use Rattle.history.specs.Causes.{numberFor}
-use Rattle.claims.specs.Amounts.{ofInterest, Parties}
 use Rattle.history.specs.Results.{Answer, opened, run, runFrom}
 use Rattle.history.specs.Ledger.{Entry}
 use Rattle.history.specs.Statement.{recordsIn, paid}
