@@ -13,9 +13,8 @@ import sys
 
 import step_files
 
-ref, mk = step_files.reference_modules(sys.argv[1])
-import claimrun  # noqa: E402
-
+ref, mk, cards, claimrun = step_files.reference_modules(sys.argv[1], "reference", "makebook", "cards", "claimrun")
+rules = cards.Rules(step_files.CARDS)
 ACCOUNTS, ROWS = 16, 16
 PAIRS = [(lender, borrower) for lender in range(ACCOUNTS) for borrower in range(ACCOUNTS) if lender != borrower]
 START = 1                       # the tracking code that starts a loan
@@ -32,15 +31,15 @@ class Direct:
     """The reference's direct calls, each on the book and balances that the last one left."""
 
     def open(self, calendar, tables, day):
-        result = ref.call_open(calendar, tables, day, [0] * ref.BALANCE_WORDS)
+        result = rules.open(calendar, tables, day, [0] * rules.words)
         self.book, self.balances = result.book, result.balances
         return result.number
 
     def transfer(self, calendar, tables, message, buffer):
-        return self.done(ref.call_transfer(calendar, tables, self.book, self.balances, message, buffer))
+        return self.done(rules.transfer(calendar, tables, self.book, self.balances, message, buffer))
 
     def close(self, calendar, tables, message, buffer):
-        return self.done(ref.call_close(calendar, tables, self.book, self.balances, message, buffer))
+        return self.done(rules.close(calendar, tables, self.book, self.balances, message, buffer))
 
     def done(self, result):
         self.book, self.balances = result.book, result.balances
@@ -84,7 +83,7 @@ def full_output():
 
     tables = mk.tables_of({s: mk.security(s % 4 + 1, 1, [row(s, r) for r in range(ROWS)]) for s in lent})
     pieces = [b"".join(loans(s, PAIRS) for s in lent), mk.close() * ROWS]
-    both = ref.Both()
+    both = cards.Both(step_files.CARDS)
     store("full-output", mk.book_bytes(CALENDAR, tables, days[0]), b"".join(pieces), places(pieces), both)
     both.check_owed()
 
@@ -184,7 +183,7 @@ def many_reads():
             data += some_transfer(dice, days[day], 4)
         size = len(data) - start
         cuts |= {start + cut for cut in (dice.choice((1, 2, 3)), dice.randrange(size), size) if dice.random() < 0.75}
-    both = ref.Both()
+    both = cards.Both(step_files.CARDS)
     book = mk.book_bytes(CALENDAR, monthly_tables(dice, 4), days[0])
     store("many-reads", book, data, sorted(cuts - {0, len(data)}), both)
     both.check_owed()
@@ -196,9 +195,10 @@ def closed_opening_day():
     calendar[0] |= 1
     tables = mk.tables_of({0: mk.security(3, 1, [ref.Row(20000103, 20000103, 20000110, 5_000_000, 0, 0, 0)])})
     data = mk.transfer(1, 2, 0, 200_000, START) + mk.close() * 2 + mk.transfer(1, 2, 0, 200_000, contract=20000101)
-    other = claimrun.run_bytes(mk.book_bytes(calendar, tables, 20000101), data, ref.Both())
-    assert len(other) == 4 * 6 + 2 * ref.CLAIM_SIZE
-    store("closed-opening-day", mk.book_bytes(calendar, tables, 20230401), data, [], ref.Both())
+    other = claimrun.run_bytes(mk.book_bytes(calendar, tables, 20000101), data, cards.Both(step_files.CARDS))
+    claims = 1 if rules.old(20000101) else 2        # the loan gives none on a day before there is lending
+    assert len(other) == 4 * 6 + claims * ref.CLAIM_SIZE
+    store("closed-opening-day", mk.book_bytes(calendar, tables, 20230401), data, [], cards.Both(step_files.CARDS))
 
 
 full_output()
