@@ -75,13 +75,13 @@ def mistakes():
     for code in range(1, rules.last_code + 1):
         run.transfer("of-code-%d" % code, 1, 2, 0, 200_000, code, contract=20230405)
     run.transfer("loan-with-a-tag", 1, 2, 0, 200_000, 1, contract=20230315)
-    rows = [ref.Row(20220001 + 100 * m, 20220001 + 100 * m, 20220015 + 100 * m, 1_000_000 * m, 0, 0, 0)
+    rows = [ref.Row(20240001 + 100 * m, 20240001 + 100 * m, 20240015 + 100 * m, 1_000_000 * m, 0, 0, 0)
             for m in range(1, 13)]
     for kind, frequency in ((1, 1), (1, 2), (2, 3), (2, 4), (3, 2), (4, 1)):
-        run = Run("rows-of-type-%d-frequency-%d" % (kind, frequency), 20221104,
+        run = Run("rows-of-type-%d-frequency-%d" % (kind, frequency), 20241104,
                   mk.tables_of({5: mk.security(kind, frequency, rows)}))
-        run.transfer("most-recent", 1, 2, 5, 100, contract=20211231)
-        run.transfer("after-the-contract-date", 1, 2, 5, 100, contract=20220930)
+        run.transfer("most-recent", 1, 2, 5, 100, contract=20231231)
+        run.transfer("after-the-contract-date", 1, 2, 5, 100, contract=20240930)
     for name, start in (("loans-each-way", 1), ("repos-each-way", 7)):
         if start <= rules.last_code:
             run = Run(name, 20230331, mk.cases_tables())
