@@ -6,15 +6,17 @@
 writes the calls to STEPS_FILE (crates/case_runs/data/case_runs.in) and prints what the program case_runs has to write for them
 (crates/case_runs/stdout). Years and factors of the memo's examples are those of the reference's cases.py. Each run is made by the
 reference's tally and its direct calls side by side.
+
+Under a call stand its claims and the balances that are not zero: 'lent' for a loan and 'repo' for a repo, each with security, lender,
+borrower and par, loans first.
 """
 import sys
 
 import step_files
 
-ref, mk = step_files.reference_modules(sys.argv[1])
-import cases  # noqa: E402
-
-steps = step_files.Steps(ref)
+ref, mk, cards, cases = step_files.reference_modules(sys.argv[1], "reference", "makebook", "cards", "cases")
+rules = cards.Rules(step_files.CARDS)
+steps = step_files.Steps(ref, rules)
 ROOM = 4096
 W, X, Y, Z = 3, 0, 1, 2      # the memo's banks
 CALENDAR = mk.weekdays()
@@ -25,7 +27,7 @@ class Run:
 
     def __init__(self, name, day, tables, calendar=CALENDAR):
         self.name = name
-        self.both = ref.Both()
+        self.both = cards.Both(step_files.CARDS)
         steps.set_tables(calendar, tables)
         self.both.open(calendar, tables, day)
         self.show("opening", steps.open(name + "-opening", day))
@@ -36,7 +38,7 @@ class Run:
             print(" claim", *claim)
         for w, par in enumerate(result.balances):
             if par:
-                print(" lent", w // 256, w // 16 % 16, w % 16, par)
+                print(" repo" if w >= cards.REPO_AT else " lent", w // 256 % 16, w // 16 % 16, w % 16, par)
 
     def made(self, name, result, tallied):
         assert result == tallied, name
@@ -70,20 +72,22 @@ def mistakes():
     """The mistakes to rule out."""
     run = Run("edits", 20230404, mk.cases_tables())
     run.transfer("contract-date-is-a-beneficiary-date", 1, 2, 0, 200_000, contract=20230401)
-    for code in range(1, 7):
+    for code in range(1, rules.last_code + 1):
         run.transfer("of-code-%d" % code, 1, 2, 0, 200_000, code, contract=20230405)
     run.transfer("loan-with-a-tag", 1, 2, 0, 200_000, 1, contract=20230315)
-    rows = [ref.Row(20220001 + 100 * m, 20220001 + 100 * m, 20220015 + 100 * m, 1_000_000 * m, 0, 0, 0)
+    rows = [ref.Row(20240001 + 100 * m, 20240001 + 100 * m, 20240015 + 100 * m, 1_000_000 * m, 0, 0, 0)
             for m in range(1, 13)]
     for kind, frequency in ((1, 1), (1, 2), (2, 3), (2, 4), (3, 2), (4, 1)):
-        run = Run("rows-of-type-%d-frequency-%d" % (kind, frequency), 20221104,
+        run = Run("rows-of-type-%d-frequency-%d" % (kind, frequency), 20241104,
                   mk.tables_of({5: mk.security(kind, frequency, rows)}))
-        run.transfer("most-recent", 1, 2, 5, 100, contract=20211231)
-        run.transfer("after-the-contract-date", 1, 2, 5, 100, contract=20220930)
-    run = Run("loans-each-way", 20230331, mk.cases_tables())
-    run.transfer("lent", 1, 2, 0, 700, 1)
-    run.transfer("borrowed", 2, 1, 0, 300, 1)
-    run.close("close-over-a-saturday")
+        run.transfer("most-recent", 1, 2, 5, 100, contract=20231231)
+        run.transfer("after-the-contract-date", 1, 2, 5, 100, contract=20240930)
+    for name, start in (("loans-each-way", 1), ("repos-each-way", 7)):
+        if start <= rules.last_code:
+            run = Run(name, 20230331, mk.cases_tables())
+            run.transfer("lent", 1, 2, 0, 700, start)
+            run.transfer("borrowed", 2, 1, 0, 300, start)
+            run.close("close-over-a-saturday")
 
 
 def memo_fails():

@@ -4,18 +4,19 @@
 
 writes the calls to STEPS_FILE (crates/extremes/data/extremes.in) and prints what the program extremes has to write for them
 (crates/extremes/stdout): for each call its name, number, day, count and claims, and the checksums of the claim buffer and of the
-balances after it.
+balances after it. Where a step fills all words of the balances, it fills those of repos too.
 """
 import sys
 
 import step_files
 
-ref, mk = step_files.reference_modules(sys.argv[1])
-steps = step_files.Steps(ref)
+ref, mk, cards = step_files.reference_modules(sys.argv[1], "reference", "makebook", "cards")
+rules = cards.Rules(step_files.CARDS)
+steps = step_files.Steps(ref, rules)
 LIMIT = 9_000_000_000
 FACTOR = 2_000_000_000
 PAIRS = [(lender, borrower) for lender in range(16) for borrower in range(16) if lender != borrower]
-EVERY_CLAIM = 16 * 16 * len(PAIRS)
+EVERY_CLAIM = 16 * 16 * len(PAIRS) * len(rules.kinds)
 
 
 def show(name, result):
@@ -36,7 +37,8 @@ def close(name, room):
 
 
 def balances_of(*entries):
-    words = [0] * 4096
+    """Balances with these loans."""
+    words = [0] * rules.words
     for security, lender, borrower, par in entries:
         words[ref.place(security, lender, borrower)] = par
     return words
@@ -64,7 +66,7 @@ def largest_amounts():
     close("balance-past-the-limit", 0)
     steps.set_book(20230404, 0, balances_of((15, 15, 15, 1)))
     close("balance-with-itself", 0)
-    steps.set_book(20230404, 7, [2 ** 64 - 1] * 4096)
+    steps.set_book(20230404, 7, [2 ** 64 - 1] * rules.words)
     transfer("largest-words", 0, 1, 2, 0, 1)
     opening("opening-over-the-largest-words", 20230404)
 
@@ -84,7 +86,7 @@ def last_days():
     transfer("start-two-before-the-last-date", 0, 0, 15, 7, 1_000, 1)
     close("close-two-before-the-last-date", 35)
     close("close-with-no-open-day-behind", 35)
-    steps.set_book(20391231, 0, [0] * 4096)
+    steps.set_book(20391231, 0, balances_of())
     close("book-on-the-last-date", 0)
     transfer("transfer-on-the-last-date", 0, 0, 15, 7, 1)
     steps.set_tables(mk.only([20391230, 20391231]), tables)
@@ -92,6 +94,16 @@ def last_days():
     opening("last-date-alone", 20391231)
     steps.set_tables(mk.only([20391231]), tables)
     opening("one-open-day", 20391231)
+
+
+def every_balance():
+    """Balances with another par in each word of two accounts."""
+    words = [0] * rules.words
+    for kind, (_, start) in enumerate(rules.kinds):
+        for s in range(16):
+            for lender, borrower in PAIRS:
+                words[start + ref.place(s, lender, borrower)] = 1 + (lender * 977 + borrower * 31 + s + 16 * kind) * 2_000_003 % LIMIT
+    return words
 
 
 def every_row():
@@ -104,8 +116,7 @@ def every_row():
 
     steps.set_tables(mk.only([20000103, 20330301, 20390104, 20391231]), mk.tables_of(
         {s: mk.security(s % 4 + 1, s // 4 + 1, [row(s, r) for r in range(16)]) for s in range(16)}))
-    balances = balances_of(*((s, lender, borrower, 1 + (lender * 977 + borrower * 31 + s) * 2_000_003 % LIMIT)
-                             for s in range(16) for lender, borrower in PAIRS))
+    balances = every_balance()
     steps.set_book(20000103, 3, balances)
     close("every-row-no-buffer", 0)
     close("every-row-one-byte-short", 35 * EVERY_CLAIM - 1)
@@ -113,7 +124,7 @@ def every_row():
     close("no-row-no-buffer", 0)
     steps.set_book(20000103, 3, balances)
     close("every-row-one-byte-over", 35 * EVERY_CLAIM + 1)
-    steps.set_book(20000103, 3, [0 if w // 16 % 16 == w % 16 else LIMIT for w in range(4096)])
+    steps.set_book(20000103, 3, [0 if w // 16 % 16 == w % 16 else LIMIT for w in range(rules.words)])
     close("every-row-at-the-limit", 35 * EVERY_CLAIM)
     steps.set_book(20330301, 3, balances)
     transfer("seven-rows-no-buffer", 0, 9, 8, 2, 77_777_777, contract=20000103)

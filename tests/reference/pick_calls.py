@@ -3,86 +3,78 @@
     python3 pick_calls.py REFERENCE_FOLDER SEED COUNT FOLDER
 
 makes random calls by the reference's make_calls.py and writes COUNT of them to FOLDER/calls.in, with what they should give in
-FOLDER/calls.expected (the format stands in crates/call_files/src/entries.rt). It takes first the calls that show an answer, a
-combination of claim type, outcome and slot, or a part of wrong length that no call before them shows, then others in their order;
-none with a large claim buffer. It prints what the calls cover, and fails where an answer, a claim type, an outcome or a slot is
-missing.
+FOLDER/calls.expected (the format is that of make_calls.py; crates/call_files/src/entries.rt reads it). It takes first the calls that show
+an answer, a claim type, an outcome or a slot that no call before them shows, then those that show an answer to another kind of call, a
+combination of claim type, outcome and slot, or a part of wrong length that none before them shows, then others in their order, those with
+claims first; none with a large claim buffer. It prints what the calls cover, and fails where an answer, a claim type, an outcome or a slot
+of the cards in force is missing.
 """
 import collections
 import os
-import random
-import struct
 import sys
 
+import step_files
+
 folder, seed, count, out = sys.argv[1], sys.argv[2], int(sys.argv[3]), sys.argv[4]
-sys.dont_write_bytecode = True
-sys.path[:0] = [folder, os.path.join(folder, "vectors")]
+ref, cards, make_calls = step_files.reference_modules(folder, "reference", "cards", "make_calls")
 
-import make_calls  # noqa: E402
-import reference as ref  # noqa: E402
-
-CALLS = ("open", "transfer", "close")
-NUMBERS = set(range(12)) | {132, 133, 135, 138, 139}
+CALLS = ("open", "transfer", "close", "transfer with limits or denominations", "carry over", "set a checkpoint",
+         "return to a checkpoint", "forecast", "explain", "transfer on one of several books", "close on one of several books")
+ONE_BOOK, TRANSFERS = (0, 1, 2, 3), (1, 3, 9)
+NUMBERS = step_files.in_force(step_files.ANSWERS)
 LARGEST_BUFFER = 4096
 CANDIDATES = 40 * count
-LENGTHS = {"calendar": 480, "tables": 1824, "balances": 4096}
+LENGTHS = {"calendar": 480, "tables": 1824, "balances": cards.Rules(step_files.CARDS).words, "limits": 5, "pieces": 16}
+
+
+def wrong_lengths(call) -> set:
+    """The parts of wrong length of a call on one book, and by how much they are wrong."""
+    lent = {name: call[name] for name in LENGTHS if call["kind"] in ONE_BOOK and call.get(name) is not None}
+    return {("length", name, len(part) - LENGTHS[name]) for name, part in lent.items() if len(part) != LENGTHS[name]}
 
 
 def shown(call, result) -> set:
     """What a call shows."""
-    facts = {("answer", CALLS[call["kind"]], result.number)}
-    facts |= {("length", name, len(call[name]) - words) for name, words in LENGTHS.items() if len(call[name]) != words}
+    facts = {("answer", CALLS[call["kind"]], result.number)} | wrong_lengths(call)
     for claim in ref.read_claims(result.buffer, result.claims):
         facts.add(("claim", claim.claim_type, claim.outcome, claim.slot))
-    if call["kind"] == 1 and result.number == 0:
+    if call["kind"] in TRANSFERS and result.number == 0:
         facts.add(("code", ref.read_record(ref.TRANSFER, call["message"])[1].code))
     if result.claims:
         facts.add(("buffer", CALLS[call["kind"]], min(2, len(result.buffer) - 35 * result.claims)))
     return facts
 
 
-def call_bytes(call) -> bytes:
-    return b"".join((bytes([call["kind"]]), make_calls.u32s(call["calendar"]), make_calls.u32s(call["tables"]),
-                     make_calls.balance_bytes(call["balances"]), struct.pack("<II", call["day"], call["count"]),
-                     make_calls.with_length(call["message"]), make_calls.with_length(call["buffer"])))
-
-
-def result_bytes(result) -> bytes:
-    return b"".join((struct.pack("<HIII", result.number, *result.book, result.claims),
-                     make_calls.balance_bytes(result.balances), make_calls.with_length(result.buffer)))
+def asked(facts) -> set:
+    """What the check at the end asks for, among what calls show."""
+    return step_files.parts_of((fact[2] for fact in facts if fact[0] == "answer"), (fact[1:] for fact in facts if fact[0] == "claim"))
 
 
 def picked() -> list:
     """(place, call, result, what it shows), in the order of their places."""
-    seen, first, others = set(), [], []
+    seen, ranked = set(), []
     for i in range(CANDIDATES):
-        try:
-            call = make_calls.some_call(random.Random("calls/%s/%d" % (seed, i)))
-        except IndexError:      # the generator spoils a header that it has cut away before
-            continue
-        if len(call["buffer"]) > LARGEST_BUFFER:
+        call = make_calls.call_of(seed, i, step_files.CARDS)
+        if len(call.get("buffer", b"")) > LARGEST_BUFFER:
             continue
         result = make_calls.run(call)
         facts = shown(call, result)
-        (others if facts <= seen else first).append((i, call, result, facts))
+        rank = (asked(facts) <= asked(seen)) + (facts <= seen)
+        ranked.append((rank, rank == 2 and not result.claims, i, call, result, facts))
         seen |= facts
-    others.sort(key=lambda entry: (not entry[2].claims, entry[0]))
-    return sorted((first + others)[:count], key=lambda entry: entry[0])
+    ranked.sort(key=lambda entry: entry[:3])
+    return sorted((entry[2:] for entry in ranked[:count]), key=lambda entry: entry[0])
 
 
 calls = picked()
 os.makedirs(out, exist_ok=True)
 with open(os.path.join(out, "calls.in"), "wb") as file:
-    file.write(b"".join(call_bytes(call) for _, call, _, _ in calls))
+    file.write(b"".join(make_calls.entry_bytes(call) for _, call, _, _ in calls))
 with open(os.path.join(out, "calls.expected"), "wb") as file:
-    file.write(b"".join(result_bytes(result) for _, _, result, _ in calls))
+    file.write(b"".join(make_calls.expected_bytes(call, result) for _, call, result, _ in calls))
 covered = collections.Counter(fact for _, _, _, facts in calls for fact in facts)
 for fact, times in sorted(covered.items(), key=str):
     print(times, *fact)
-claims = [fact[1:] for fact in covered if fact[0] == "claim"]
-missing = [("answer", n) for n in sorted(NUMBERS - {fact[2] for fact in covered if fact[0] == "answer"})]
-missing += [("type", n) for n in (1, 3) if n not in {c[0] for c in claims}]
-missing += [("outcome", n) for n in range(4) if n not in {c[1] for c in claims}]
-missing += [("slot", n) for n in range(4) if n not in {c[2] for c in claims}]
+missing = sorted(step_files.wanted(NUMBERS) - asked(covered))
 print("missing:", *(missing or ["nothing"]))
 sys.exit(1 if missing else 0)

@@ -13,8 +13,13 @@ import subprocess
 import sys
 import tempfile
 
+import step_files
+
 folder, seed, count, out = sys.argv[1], sys.argv[2], int(sys.argv[3]), sys.argv[4]
-NUMBERS = {0, 1, 2, 3, 4, 5, 6, 7, 8, 9, 10, 132, 133, 135, 138, 139}
+# Answers that no stream gets: 11 needs 4,294,967,295 transfers before it, claimrun lends no limits (12) and ones as denominations (13, 14),
+# and 16 to 21 are those of calls that it does not make.
+NEVER = {11, 12, 13, 14, *range(16, 22)}
+NUMBERS = step_files.in_force(step_files.ANSWERS) - NEVER
 CANDIDATES = 6 * count
 LARGEST = 200000
 
@@ -41,8 +46,8 @@ def shown(expected: bytes) -> set:
 
 
 with tempfile.TemporaryDirectory() as made:
-    subprocess.run([sys.executable, "-B", os.path.join(folder, "vectors", "make_vectors.py"), seed, str(CANDIDATES), made],
-                   check=True, stdout=subprocess.DEVNULL)
+    subprocess.run([sys.executable, "-B", os.path.join(folder, "vectors", "make_vectors.py"), "--cards", str(step_files.CARDS), seed,
+                    str(CANDIDATES), made], check=True, stdout=subprocess.DEVNULL)
     streams = [tuple(content(made, name, part) for part in ("book.dat", "input.dat", "expected.dat")) for name in sorted(os.listdir(made))]
 seen, first, others = set(), [], []
 for i, stream in sorted(enumerate(streams), key=lambda entry: (sum(map(len, entry[1])), entry[0])):
@@ -58,10 +63,10 @@ with open(os.path.join(out, "streams.in"), "wb") as file:
     for _, stream in picked:
         file.write(b"".join(struct.pack("<I", len(part)) + part for part in stream))
 print("%d streams, places %s" % (len(picked), " ".join(str(i) for i, _ in picked)))
-print("answers", sorted(fact[1] for fact in covered if fact[0] == "answer"))
-print("claims (type, outcome, slot)", sorted(fact[1:] for fact in covered if fact[0] == "claim"))
-missing = NUMBERS - {fact[1] for fact in covered if fact[0] == "answer"}
-for at, values in ((1, {1, 3}), (2, {0, 1, 2, 3}), (3, {0, 1, 2, 3})):
-    missing |= values - {fact[at] for fact in covered if fact[0] == "claim"}
+answers = sorted(fact[1] for fact in covered if fact[0] == "answer")
+claims = sorted(fact[1:] for fact in covered if fact[0] == "claim")
+print("answers", answers)
+print("claims (type, outcome, slot)", claims)
+missing = sorted(step_files.wanted(NUMBERS) - step_files.parts_of(answers, claims))
 if missing or len(picked) < count:
-    sys.exit("missing: %s" % sorted(missing))
+    sys.exit("missing: %s" % missing)

@@ -13,9 +13,8 @@ import sys
 
 import step_files
 
-ref, mk = step_files.reference_modules(sys.argv[1])
-import claimrun  # noqa: E402
-
+ref, mk, cards, claimrun = step_files.reference_modules(sys.argv[1], "reference", "makebook", "cards", "claimrun")
+rules = cards.Rules(step_files.CARDS)
 ACCOUNTS, ROWS = 16, 16
 PAIRS = [(lender, borrower) for lender in range(ACCOUNTS) for borrower in range(ACCOUNTS) if lender != borrower]
 START = 1                       # the tracking code that starts a loan
@@ -26,21 +25,23 @@ RECORD_ROOM = 65542             # the output that must be free for a record
 MOST_CLAIMS = 65536 // ref.CLAIM_SIZE
 CALENDAR = mk.weekdays()
 OPEN_DAYS = ref.open_days(CALENDAR)
+FIRST_DAY = 20240103            # where the streams with loans open; on days before 20230130 card 7 has other rules
+FAIL_CLAIMS = 6                 # the most claims of a failed transfer of type 1 or 2 with monthly rows
 
 
 class Direct:
     """The reference's direct calls, each on the book and balances that the last one left."""
 
     def open(self, calendar, tables, day):
-        result = ref.call_open(calendar, tables, day, [0] * ref.BALANCE_WORDS)
+        result = rules.open(calendar, tables, day, [0] * rules.words)
         self.book, self.balances = result.book, result.balances
         return result.number
 
     def transfer(self, calendar, tables, message, buffer):
-        return self.done(ref.call_transfer(calendar, tables, self.book, self.balances, message, buffer))
+        return self.done(rules.transfer(calendar, tables, self.book, self.balances, message, buffer))
 
     def close(self, calendar, tables, message, buffer):
-        return self.done(ref.call_close(calendar, tables, self.book, self.balances, message, buffer))
+        return self.done(rules.close(calendar, tables, self.book, self.balances, message, buffer))
 
     def done(self, result):
         self.book, self.balances = result.book, result.balances
@@ -77,14 +78,14 @@ def loans(security: int, pairs) -> bytes:
 def full_output():
     """1,680 loans, then 16 closes in one piece; each crosses a Record Date of every security lent."""
     lent = range(7)
-    days = days_from(20230103)
+    days = days_from(FIRST_DAY)
 
     def row(s, r):
         return ref.Row(days[r + 1], days[r + 1], days[r + 30], 1_000_000 * (r + 1), 500_000 * s, int(r == 15 and s == 6), (s == 5) << r)
 
     tables = mk.tables_of({s: mk.security(s % 4 + 1, 1, [row(s, r) for r in range(ROWS)]) for s in lent})
     pieces = [b"".join(loans(s, PAIRS) for s in lent), mk.close() * ROWS]
-    both = ref.Both()
+    both = cards.Both(step_files.CARDS)
     store("full-output", mk.book_bytes(CALENDAR, tables, days[0]), b"".join(pieces), places(pieces), both)
     both.check_owed()
 
@@ -97,28 +98,29 @@ def rows_behind(days, closes) -> list:
 
 
 def fail(dice, rows, claims: int) -> bytes:
-    """A failed transfer that gives this many claims, up to seven."""
+    """A failed transfer that gives this many claims, up to six."""
     sender, receiver = dice.choice(PAIRS)
     return mk.transfer(sender, receiver, dice.randrange(8), 1_000 * dice.randrange(1, 1001), contract=rows[-1 - claims].beneficiary)
 
 
 def fails_of_size(dice, rows, size: int) -> bytes:
     """Failed transfers whose claims and answers have this many bytes together."""
-    count = next(n for n in range(size) if (size - 6 * n) % ref.CLAIM_SIZE == 0 and size <= n * (7 * ref.CLAIM_SIZE + 6))
+    count = next(n for n in range(size) if (size - 6 * n) % ref.CLAIM_SIZE == 0 and size <= n * (FAIL_CLAIMS * ref.CLAIM_SIZE + 6))
     claims = (size - 6 * count) // ref.CLAIM_SIZE
-    return b"".join(fail(dice, rows, min(7, max(0, claims - 7 * i))) for i in range(count))
+    return b"".join(fail(dice, rows, min(FAIL_CLAIMS, max(0, claims - FAIL_CLAIMS * i))) for i in range(count))
 
 
 def fill_points(name, offsets):
     """A piece for each offset: its records fill the output to this many bytes behind the last place where a record is worked, when a close
-    of 1,872 claims comes next. All closes of a piece but its last cross a Record Date."""
-    dice, days = random.Random(name), days_from(20230103)
+    of 1,872 claims comes next. All closes of a piece but its last cross a Record Date. The securities are of types 1 and 2: card 2 drops
+    claims of the others, whose Payment Dates lie ahead."""
+    dice, days = random.Random(name), days_from(FIRST_DAY)
     rows = rows_behind(days, [close for close in range(4 * len(offsets)) if close % 4 < 3])
-    tables = mk.tables_of({s: mk.security(s % 2 + 3, 1, rows) for s in range(8)})
+    tables = mk.tables_of({s: mk.security(s % 2 + 1, 1, rows) for s in range(8)})
     pieces = [b"".join(loans(s, PAIRS) for s in range(7)) + loans(7, PAIRS[:MOST_CLAIMS - 7 * len(PAIRS)])]
     for offset in offsets:
         size = OUTPUT_BUFFER - RECORD_ROOM + offset - 2 * (ref.CLAIM_SIZE * MOST_CLAIMS + 6)
-        pieces.append(mk.close() * 2 + fails_of_size(dice, rows, size) + mk.close() + fail(dice, rows, 7) + mk.close())
+        pieces.append(mk.close() * 2 + fails_of_size(dice, rows, size) + mk.close() + fail(dice, rows, FAIL_CLAIMS) + mk.close())
         assert len(pieces[-1]) <= INPUT_BUFFER
     store(name, mk.book_bytes(CALENDAR, tables, days[0]), b"".join(pieces), places(pieces), Direct())
 
@@ -137,8 +139,8 @@ def some_transfer(dice, day: int, securities: int) -> bytes:
 
 
 def monthly_tables(dice, securities: int) -> list:
-    """Securities of all types with a row for each month from October 2022 on."""
-    months = [20221001, 20221101, 20221201] + [20230001 + 100 * m for m in range(1, 13)]
+    """Securities of all types with a row for each month from October 2023 on."""
+    months = [20231001, 20231101, 20231201] + [20240001 + 100 * m for m in range(1, 13)]
 
     def rows():
         return [ref.Row(m + dice.randrange(3), m + dice.randrange(3), m + 14, dice.randrange(10_000_000),
@@ -158,7 +160,7 @@ def sizes_for(dice, total: int) -> list:
 
 def buffer_ends():
     """A stream that cuts a record at another place at the end of each buffer, where each read fills the buffer."""
-    dice, days = random.Random("buffer-ends"), days_from(20230103)
+    dice, days = random.Random("buffer-ends"), days_from(FIRST_DAY)
     wanted = [(TRANSFER_SIZE, left) for left in (0, 1, 2, 3, 4, 5, 139, 140)] + [(CLOSE_SIZE, left) for left in (1, 2, 3)]
     records, day, first = [], 0, CLOSE_SIZE
     for cut, left in wanted + [(TRANSFER_SIZE, 0)]:
@@ -173,7 +175,7 @@ def buffer_ends():
 def many_reads():
     """Loans, failed transfers and closes in more than 1,000 pieces, cut anywhere and often behind the first bytes of a record."""
     dice = random.Random("many-reads")
-    days = days_from(20230103)
+    days = days_from(FIRST_DAY)
     data, cuts, day = b"", set(), 0
     for _ in range(640):
         start = len(data)
@@ -184,7 +186,7 @@ def many_reads():
             data += some_transfer(dice, days[day], 4)
         size = len(data) - start
         cuts |= {start + cut for cut in (dice.choice((1, 2, 3)), dice.randrange(size), size) if dice.random() < 0.75}
-    both = ref.Both()
+    both = cards.Both(step_files.CARDS)
     book = mk.book_bytes(CALENDAR, monthly_tables(dice, 4), days[0])
     store("many-reads", book, data, sorted(cuts - {0, len(data)}), both)
     both.check_owed()
@@ -196,9 +198,10 @@ def closed_opening_day():
     calendar[0] |= 1
     tables = mk.tables_of({0: mk.security(3, 1, [ref.Row(20000103, 20000103, 20000110, 5_000_000, 0, 0, 0)])})
     data = mk.transfer(1, 2, 0, 200_000, START) + mk.close() * 2 + mk.transfer(1, 2, 0, 200_000, contract=20000101)
-    other = claimrun.run_bytes(mk.book_bytes(calendar, tables, 20000101), data, ref.Both())
-    assert len(other) == 4 * 6 + 2 * ref.CLAIM_SIZE
-    store("closed-opening-day", mk.book_bytes(calendar, tables, 20230401), data, [], ref.Both())
+    other = claimrun.run_bytes(mk.book_bytes(calendar, tables, 20000101), data, cards.Both(step_files.CARDS))
+    claims = 1 if rules.old(20000101) else 2        # the loan gives none on a day before there is lending
+    assert len(other) == 4 * 6 + claims * ref.CLAIM_SIZE
+    store("closed-opening-day", mk.book_bytes(calendar, tables, 20230401), data, [], cards.Both(step_files.CARDS))
 
 
 full_output()

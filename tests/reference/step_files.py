@@ -1,22 +1,45 @@
-"""Files of steps for the programs extremes and case_runs, and what the reference answers to them.
+"""The number of cards in force, what the stored data have to cover with it, and files of steps for the programs extremes and case_runs
+with what the reference answers to them.
 
-The format of a file stands in crates/call_files/src/steps.rt.
+The format of a file of steps stands in crates/call_files/src/steps.rt.
 """
+import importlib
 import os
 import struct
 import sys
 
+CARDS = 0                       # how many of document 02's cards are in force
 OPEN, TRANSFER, CLOSE, TABLES, BOOK = range(5)
 MODULUS = 4294967291
 
+# The answers and the claim types, each with the card that brings it; 0 is document 01.
+ANSWERS = {n: 0 for n in (*range(12), 132, 133, 135, 138, 139)} | {
+    12: 5, 13: 6, 14: 6, 15: 7, 16: 9, 17: 9, 18: 10, 19: 10, 20: 14, 21: 14}
+CLAIM_TYPES = {1: 0, 2: 1, 3: 0, 4: 3}
+OUTCOMES = SLOTS = range(4)
 
-def reference_modules(folder):
-    """The modules reference and makebook of a folder that holds the reference."""
+
+def in_force(table) -> set:
+    """What document 01 and the cards in force bring."""
+    return {n for n, card in table.items() if card <= CARDS}
+
+
+def wanted(numbers) -> set:
+    """What stored data have to show: these answers, and the claim types, outcomes and slots in force."""
+    parts = {"answer": numbers, "type": in_force(CLAIM_TYPES), "outcome": OUTCOMES, "slot": SLOTS}
+    return {(name, n) for name, values in parts.items() for n in values}
+
+
+def parts_of(answers, claims) -> set:
+    """What answers and claims show of it; a claim is its type, outcome and slot."""
+    return {("answer", n) for n in answers} | {part for claim in claims for part in zip(("type", "outcome", "slot"), claim)}
+
+
+def reference_modules(folder, *names) -> list:
+    """The modules of these names of a folder that holds the reference, and of its folder vectors."""
     sys.dont_write_bytecode = True
-    sys.path.insert(0, folder)
-    import makebook
-    import reference
-    return reference, makebook
+    sys.path[:0] = [folder, os.path.join(folder, "vectors")]
+    return [importlib.import_module(name) for name in names]
 
 
 def pattern(length: int) -> bytes:
@@ -34,11 +57,12 @@ def checksum(numbers) -> int:
 class Steps:
     """The steps of a file, run by the reference as they are added: each on the book and balances that the last one left."""
 
-    def __init__(self, ref):
-        self.ref = ref
+    def __init__(self, ref, rules):
+        """The rules have the direct calls."""
+        self.ref, self.rules = ref, rules
         self.steps = []
         self.calendar, self.tables = [0] * 480, [0] * 1824
-        self.book, self.balances = ref.Book(0, 0), [0] * 4096
+        self.book, self.balances = ref.Book(0, 0), [0] * rules.words
 
     def add(self, kind: int, name: str, message: bytes, room: int = 0) -> None:
         self.steps.append(struct.pack("<BB", kind, len(name)) + name.encode()
@@ -61,18 +85,16 @@ class Steps:
     def open(self, name: str, day: int):
         """A refused opening leaves the book that was there."""
         self.add(OPEN, name, struct.pack("<I", day))
-        result = self.ref.call_open(self.calendar, self.tables, day, self.balances)
+        result = self.rules.open(self.calendar, self.tables, day, self.balances)
         return result if result.number else self.done(result)
 
     def transfer(self, name: str, message: bytes, room: int):
         self.add(TRANSFER, name, message, room)
-        return self.done(self.ref.call_transfer(self.calendar, self.tables, self.book, self.balances, message,
-                                                pattern(room)))
+        return self.done(self.rules.transfer(self.calendar, self.tables, self.book, self.balances, message, pattern(room)))
 
     def close(self, name: str, message: bytes, room: int):
         self.add(CLOSE, name, message, room)
-        return self.done(self.ref.call_close(self.calendar, self.tables, self.book, self.balances, message,
-                                             pattern(room)))
+        return self.done(self.rules.close(self.calendar, self.tables, self.book, self.balances, message, pattern(room)))
 
     def write(self, path: str) -> None:
         with open(path, "wb") as file:
