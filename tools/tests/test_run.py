@@ -15,6 +15,11 @@ from desk import running
 STOPS = BOOK + MESSAGES + '[[message]]\nhex = "0102"\n[[message]]\nclose = 1\n'
 
 
+def interruptible():
+    """In a process that a test starts: SIGINT meets it, also where the tests run in the background and ignore that signal."""
+    signal.signal(signal.SIGINT, signal.SIG_DFL)
+
+
 class Runs(common.Desk):
     def program(self, text):
         """A program in claimrun's place."""
@@ -119,7 +124,8 @@ class Runs(common.Desk):
     def terminal(self, *args, stop=None):
         """Status and standard error of a call whose standard error is a terminal."""
         ours, theirs = pty.openpty()
-        process = subprocess.Popen([sys.executable, COMMAND, *args], cwd=self.folder, stdout=subprocess.DEVNULL, stderr=theirs)
+        process = subprocess.Popen([sys.executable, COMMAND, *args], cwd=self.folder, stdout=subprocess.DEVNULL, stderr=theirs,
+                                   preexec_fn=interruptible)
         os.close(theirs)
         seen = b""
         while True:
@@ -170,7 +176,7 @@ class Runs(common.Desk):
         self.file("s.toml", BOOK + MESSAGES)
         slow = self.program('echo $$ > "%s"; exec sleep 20' % self.path("started"))
         process = subprocess.Popen([sys.executable, COMMAND, "run", "s.toml", "--claimrun", slow, "-o", "claims.txt"], cwd=self.folder,
-                                   stderr=subprocess.PIPE, env=os.environ | {"TMPDIR": self.path("tmp")})
+                                   stderr=subprocess.PIPE, env=os.environ | {"TMPDIR": self.path("tmp")}, preexec_fn=interruptible)
         while not os.path.exists(self.path("started")) or not content(self.path("started")).endswith(b"\n"):
             self.assertIsNone(process.poll())
             time.sleep(0.01)
