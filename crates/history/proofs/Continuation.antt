@@ -1,6 +1,6 @@
 -- A history goes on from any sound ledger: the laws of every list of calls hold from any ledger on, and what is owed by the entries since
 -- then is what is owed by all less what is owed by those before.
-use mathlib.Core.Path.{_≡_, refl, sym, ap, _∙_, subst, subst₂}
+use mathlib.Core.Path.{_≡_, refl, ap}
 use mathlib.Core.Bool.{Bool, true}
 use mathlib.Core.List.{List, [], _∷_, _++_}
 use Prim.Native.Nat.{ℕ, zero, suc, _+_}
@@ -14,8 +14,8 @@ use Rattle.history.specs.Calls.{Call}
 use Rattle.history.specs.Causes.{numberFor, openingNumber}
 use Rattle.history.specs.Results.{run, openedFor, opened}
 use Rattle.history.specs.Ledger.{Entry, Ledger, started, bookOf, balancesOf, keep, numberOn, judged}
-use Rattle.history.specs.Owed.{owedBy, owed}
-use Rattle.history.specs.Statement.{recordsIn, paid, CrossedOnce}
+use Rattle.history.specs.Owed.{owed}
+use Rattle.history.specs.Statement.{recordsIn, paid}
 use Rattle.history.specs.Continuation.{owedSince, SoundLedger, GoesOn, EveryContinuation, Period, AllGoOn, EveryPeriod}
 use Rattle.history.proofs.Accepted.{begun}
 use Rattle.history.proofs.Simulation.{Inside, inside-step, follows}
@@ -25,18 +25,25 @@ use Rattle.history.proofs.Theorem.{read-all, found-all, paid-all, store
 module _ (calendar tables : List ℕ) where
   -- ---- what is owed since then
 
-  module _ (part : Part) (rowTest : ℕ → Bool) (before : List Entry) (x : Parties) where
-    owed-since : (since : List Entry)
+  module _ (part : Part) (rowTest : ℕ → Bool) (x : Parties) where
+    owed-since : (before since : List Entry)
         → owedSince calendar tables part rowTest before since x + owed calendar tables part rowTest before x
         ≡ owed calendar tables part rowTest (since ++ before) x
     unfolding owedSince owed
-    owed-since [] = zero-add _
-    owed-since (e ∷ since) = omega (arith, owed-since since)
+    owed-since before [] = zero-add _
+    owed-since before (e ∷ since) = omega (arith, owed-since before since)
 
-    pays-since : (n : ℕ) (since all : List Entry) → all ≡ since ++ before
-        → n + owed calendar tables part rowTest before x ≡ owed calendar tables part rowTest all x
-        → n ≡ owedSince calendar tables part rowTest before since x
-    pays-since n since all e h = omega (arith, owed-since since, ap (λ (es : List Entry). owed calendar tables part rowTest es x) e)
+    paid-since : (calls : List Call) (before : Ledger) (since : List Entry) → Inside (before .entries)
+        → judged calendar tables before calls .ledger .entries ≡ since ++ before .entries
+        → paid part rowTest (recordsIn (judged calendar tables before calls .answers)) x
+        ≡ owedSince calendar tables part rowTest (before .entries) since x
+    paid-since calls before since h e =
+        omega (
+          arith,
+          paid-all calendar tables part rowTest x calls before h,
+          owed-since (before .entries) since,
+          ap (λ (es : List Entry). owed calendar tables part rowTest es x) e,
+        )
 
   -- ---- the entries since then
 
@@ -94,12 +101,8 @@ every-continuation calendar tables before k calls =
       balances = f .balances;
       lent = λ p h. omega (arith, stored-lent calendar tables _ (j .ledger .entries) p h (f .balances) (f .covered p));
       readable = rw (f .answers) (read-all calendar tables calls before);
-      row-payments = λ part x row.
-          pays-since calendar tables part (eqb row) (before .entries) x _ s (j .ledger .entries) g
-          (rw (f .answers) (paid-all calendar tables part (eqb row) x calls before (k .inside)));
-      payments = λ part x.
-          pays-since calendar tables part (λ row. true) (before .entries) x _ s (j .ledger .entries) g
-          (rw (f .answers) (paid-all calendar tables part (λ row. true) x calls before (k .inside)));
+      row-payments = λ part x row. rw (f .answers) (paid-since calendar tables part (eqb row) x calls before s (k .inside) g);
+      payments = λ part x. rw (f .answers) (paid-since calendar tables part (λ row. true) x calls before s (k .inside) g);
       crossed-once = λ row.
           let c = since-passed calendar tables (before .day) row calls before [] (passed-none calendar tables (before .day) row) .crossed-once in
           record {

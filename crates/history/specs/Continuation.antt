@@ -1,10 +1,11 @@
--- A history that goes on, in words. Take any ledger that is sound: the decreases it has accepted are nowhere more than the increases, and
--- only positions of the book were increased. From its book and balances on, with any calendar and tables, every answer and the book and
--- balances after the list are those of the ledger that goes on. The par between two accounts counts the calls before and the calls since.
--- What the records from then on pay is what the calls from then on owe, for each row and for all; a close since then is on the par of all
--- calls before it, those before the change too. Every Record Date passed since then is crossed exactly once. The ledger stays sound, so
--- calendar and tables may change any number of times: a security has 16 rows, so a book that lives for years gets new tables. `owed` and
--- `CrossedOnce` of a whole history speak of one calendar and tables; over such a change it is each period that owes and crosses by its own.
+-- A history that goes on, in words. Take any ledger that is sound: the decreases it has accepted are nowhere more than the increases,
+-- also before each kept call, and only positions of the book were increased. From its book and balances on, with any calendar and tables,
+-- every answer and the book and balances after the list are those of the ledger that goes on. The par between two accounts counts the
+-- calls before and the calls since. What the records from then on pay is what the calls from then on owe, for each row and for all; a
+-- close since then is on the par of all calls before it, those before the change too. Every Record Date passed since then is crossed
+-- exactly once. The ledger stays sound, so calendar and tables may change any number of times: a security has 16 rows, so a book that
+-- lives for years gets new tables. `owed` and `CrossedOnce` of a whole history speak of one calendar and tables; over such a change it is
+-- each period that owes and crosses by its own.
 use mathlib.Core.Path.{_≡_}
 use mathlib.Core.Bool.{Bool, true}
 use mathlib.Core.List.{List, [], _∷_, _++_}
@@ -54,7 +55,8 @@ pub record GoesOn (calendar tables : List ℕ) (before : Ledger) (calls : List C
       → paid part (eqb row) (recordsIn (r .answers)) x ≡ owedSince calendar tables part (eqb row) (before .entries) since x
   pub payments : (part : Part) (x : Parties)
       → paid part (λ row. true) (recordsIn (r .answers)) x ≡ owedSince calendar tables part (λ row. true) (before .entries) since x
-  -- A Record Date is crossed once if it lies after the day before and on or before the last day, and never otherwise.
+  -- The entries since then cross a Record Date once if it lies after the day of the ledger before them and on or before the last day, and
+  -- never otherwise.
   pub crossed-once : (row : Row) → CrossedOnce calendar (before .day) (record { day = j .ledger .day; entries = since }) row
 
 -- Every list of calls from a sound ledger on, whatever calendar and tables its entries were accepted with.
