@@ -4,7 +4,7 @@
 use mathlib.Core.Path.{_≡_, refl, sym, ap, _∙_}
 use mathlib.Core.Logic.{_↔_}
 use mathlib.Core.Bool.{Bool, true, false, cond, _&&_}
-use mathlib.Core.List.{List, [], _∷_, map}
+use mathlib.Core.List.{List, [], _∷_}
 use Prim.Native.Nat.{ℕ, _≤_, _<_}
 use native.Mathlib.Omega.{arith}
 use lib.ListN.{length}
@@ -13,11 +13,8 @@ use borrow.Author.Tests.{ltb-true, leb-true, lt-ltb, le-ltb, le-leb}
 use Rattle.lists.specs.Tests.{and-left, and-right}
 use Rattle.lists.specs.All.{all}
 use Rattle.lists.specs.Select.{select, lastOf, rising, select-agree, select-both, last-none, last-front, rising-select}
-use Rattle.records.specs.declared.Transfer.{Transfer}
-use Rattle.securities.specs.Securities.{Row, filledRows}
-use Rattle.tags.specs.declared.Tag.{Tag}
-use Rattle.claims.specs.Amounts.{failType}
-use Rattle.claims.specs.Fails.{eligibleIn, eligible, Due, due, fails, dues}
+use Rattle.securities.specs.Securities.{Row}
+use Rattle.claims.specs.Fails.{eligibleIn}
 
 -- the order of a security's rows
 abbrev pub beneficiary : Row → ℕ
@@ -87,22 +84,7 @@ pub eligible-is : (n contract day : ℕ) (rows : List Row) → rising beneficiar
 unfolding eligibleIn isEligible
 eligible-is n contract day rows e = rw (last-recent n day rows e) (select-both _ _ rows)
 
--- they rise too: no Beneficiary Date is claimed twice
+-- they rise too: no Beneficiary Date is eligible twice
 pub rising-eligible : (n contract day : ℕ) (rows : List Row) → rising beneficiary rows ≡ true
     → rising beneficiary (eligibleIn n contract day rows) ≡ true
 rising-eligible n contract day rows e = rw (eligible-is n contract day rows e) (rising-select beneficiary _ rows e)
-
--- ---- what a transfer claims
-
-pub rows-of-dues : (claimType : ℕ) (rows : List Row) → map (λ d. d .row) (map (due claimType) rows) ≡ rows
-rows-of-dues claimType [] = refl
-rows-of-dues claimType (row ∷ rows) = ap (_∷_ row) (rows-of-dues claimType rows)
-
-pub rising-dues : (tables : List ℕ) (day : ℕ) (t : Transfer) (tag : Tag) → rising beneficiary (filledRows tables (t .security)) ≡ true
-    → rising beneficiary (map (λ d. d .row) (dues tables day t tag)) ≡ true
-unfolding dues eligible
-rising-dues tables day t tag e = go (fails t tag)
-  where
-    go : (b : Bool) → rising beneficiary (map (λ (d : Due). d .row) (cond b (map (due failType) (eligible tables day t tag)) [])) ≡ true
-    go true = rw (rows-of-dues failType (eligible tables day t tag)) (rising-eligible _ _ day (filledRows tables (t .security)) e)
-    go false = unfold rising in refl

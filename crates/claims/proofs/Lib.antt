@@ -1,12 +1,15 @@
 pub mod Opened
 pub mod Eligible
+pub mod Dues
 pub mod Outcomes
 pub mod Crossed
 pub mod Written
 pub mod Sizes
 pub mod Rows
+pub mod InterimRows
 pub mod Making
 pub mod TableRows
+pub mod Runs
 pub mod Reached
 pub mod RowLoops
 pub mod Turns

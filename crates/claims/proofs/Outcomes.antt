@@ -1,5 +1,5 @@
 -- The amount rule in other words; outcome, release and slot by their cases; each field of a claim.
-use mathlib.Core.Path.{_≡_, refl}
+use mathlib.Core.Path.{_≡_, refl, _∙_}
 use mathlib.Core.Logic.{_≢_}
 use mathlib.Core.Bool.{true, false, cond, _&&_}
 use mathlib.Core.List.{List}
@@ -9,8 +9,9 @@ use lib.Dec.{eqb}
 use borrow.Author.Tests.{eq-eqb, ne-eqb, le-leb, lt-leb}
 use Rattle.days.specs.Days.{bitOn, openAfter, openFrom}
 use Rattle.records.specs.declared.Claim.{Claim}
-use Rattle.securities.specs.Securities.{securityOf, typeOf, Row}
-use Rattle.claims.specs.Amounts.{Part, ofInterest, ofPrincipal, centsOn, centsFor, factorFor, amount, outcomeOf, isLate, releaseOf, isEarly, slotOf, Parties, claimOn}
+use Rattle.securities.specs.Securities.{securityOf, typeOf, Row, goodRow}
+use Rattle.claims.specs.Amounts.{failType, interimType, Part, ofInterest, ofPrincipal, centsOn, centsFor, factorFor, amount, outcomeOf, isLate, releaseOf, isEarly, slotOf, Parties, claimOn}
+use Rattle.claims.proofs.Dues.{isInterimOf, interim-timely}
 
 -- ---- the amount rule
 
@@ -93,6 +94,26 @@ module _ (calendar : List ℕ) (day type : ℕ) (row : Row) where
   pub lending-slot : slotOf type 3 day row 0 ≡ cond (isEarly type) 1 3
   unfolding slotOf isLate
   lending-slot = refl
+
+-- ---- an interim claim is as a fail claim
+
+module _ (calendar : List ℕ) (day type payer : ℕ) (row : Row) where
+  pub interim-outcome : (interest principal : ℕ) → outcomeOf interimType payer row interest principal ≡ outcomeOf failType payer row interest principal
+  unfolding outcomeOf
+  interim-outcome interest principal = refl
+
+  pub interim-as-fail : (outcome : ℕ) → releaseOf calendar interimType day row outcome ≡ releaseOf calendar failType day row outcome
+  unfolding releaseOf isLate
+  interim-as-fail outcome = refl
+
+  -- but its Payment Date is to come: a claim that settles goes on the first open day on or after it, in the slot of its type
+  pub interim-release : (last : ℕ) → goodRow last row ≡ true → isInterimOf type day row ≡ true
+      → releaseOf calendar interimType day row 0 ≡ openFrom calendar (row .paymentDate)
+  interim-release last g e = interim-as-fail 0 ∙ timely-release calendar day type row (interim-timely last type day row g e)
+
+  pub interim-slot : (last : ℕ) → goodRow last row ≡ true → isInterimOf type day row ≡ true → slotOf type interimType day row 0 ≡ cond (isEarly type) 1 3
+  unfolding slotOf isLate
+  interim-slot last g e = timely-slot calendar day type row (interim-timely last type day row g e)
 
 -- types 1 and 4 alone are early
 pub early-types : (isEarly 1 ≡ true) × (isEarly 4 ≡ true) × (isEarly 2 ≡ false) × (isEarly 3 ≡ false)

@@ -1,35 +1,42 @@
--- The claims of a failed transfer, row by row: in sound tables the rows that the day has reached come first, so the eligible rows are
--- those from a number on that have a Beneficiary Date after the Contract Date.
+-- The rows that a transfer claims, by their numbers. In sound tables both dates rise, so the rows that the day has reached by either
+-- date come first: the eligible rows are among the last that it has reached by Beneficiary Date, and the interim rows are those behind
+-- these that it has reached by Record Date.
 use mathlib.Core.Path.{_≡_, refl, sym, ap, ap₂, _∙_}
-use mathlib.Core.Bool.{Bool, true, false, cond, _&&_}
-use mathlib.Core.List.{List, [], _∷_, _++_, append-nil, append-assoc, map}
+use mathlib.Core.Bool.{Bool, true, false, cond, _&&_, true≢false}
+use mathlib.Core.List.{List, [], _∷_, _++_, map, map-append, map-map}
 use Prim.Native.Nat.{ℕ, zero, suc, _+_, _-_, _≤_, _<_}
-use native.Mathlib.Nat.{not-suc-le-zero, le-of-suc-le-suc}
+use native.Mathlib.Nat.{not-suc-le-zero, le-of-suc-le-suc, sub-zero}
 use native.Mathlib.Omega.{arith}
 use lib.Dec.{eqb, ltb, leb}
-use lib.ListN.{length, take, drop, getD, length-drop, length-map}
-use lib.Seq.{take-suc, getD-drop, length-take-le}
-use borrow.Author.Tests.{ltb-true, leb-true, leb-false, eqb-true, lt-ltb, le-ltb, lt-leb, eq-eqb, ne-eqb}
+use lib.ListN.{length, take, drop, getD, length-drop, length-map, length-append}
+use lib.Seq.{getD-drop, length-take-le}
+use borrow.Author.Tests.{ltb-true, ltb-false, leb-true, leb-false, eqb-true, lt-ltb, le-ltb, lt-leb, eq-eqb, ne-eqb}
 use Rattle.lists.specs.Tests.{and-left, and-right}
 use Rattle.lists.specs.All.{all}
 use Rattle.lists.specs.Parts.{drop-take}
 use Rattle.lists.specs.Select.{select, lastOf}
-use Rattle.lists.specs.Tabulate.{each, eachOf}
 use Rattle.days.specs.Days.{isDate, lastOpen}
 use Rattle.records.specs.declared.Claim.{Claim}
 use Rattle.records.specs.declared.Transfer.{Transfer}
 use Rattle.securities.specs.Securities.{securityOf, typeOf, frequencyOf, Row, rowsFrom, rowsOf, isEmpty, isFilled, filledRows, goodRow, goodRows, goodTables}
 use Rattle.securities.proofs.Sound.{Good, good-row}
 use Rattle.tags.specs.declared.Tag.{Tag}
-use Rattle.tags.specs.declared.Tag.the-variants.{On}
 use Rattle.tags.specs.ContractDateTag.{tagged, contractDate}
-use Rattle.days.specs.declared.Date.{Date}
-use Rattle.claims.specs.Amounts.{failType, claimOn}
-use Rattle.claims.specs.Fails.{maximumNumbers, maximumFor, eligibleIn, eligible, Due, due, fails, dues, transferParties, transferClaims}
-use Rattle.claims.specs.Reached.{rowAt, leading, isReached, reachedRows, failClaim, Failing}
+use Rattle.claims.specs.Amounts.{failType, interimType, claimOn}
+use Rattle.claims.specs.Fails.{maximumNumbers, isMbs, maximumFor, eligibleIn, eligible, isInterim, interimIn, interim, Due, due, fails, dues, transferParties, transferClaims}
+use Rattle.claims.specs.Reached.{rowAt, leading, dateAt, isReached, reachedRows, interimEnd, Claiming}
+use Rattle.claims.proofs.Runs.{select-within, last-within}
 use Rattle.claims.proofs.TableRows.{rows-length, rows-of-at, length-rows-of, good-rows}
 
--- ---- the rows that the day has reached come first
+-- ---- tests
+
+and-true : (b : Bool) → b && true ≡ b
+and-true true = refl
+and-true false = refl
+
+and-false : (b : Bool) → b && false ≡ false
+and-false true = refl
+and-false false = refl
 
 leading-within : {A : Type 0} (p : A → Bool) (xs : List A) → leading p xs ≤ length xs
 unfolding leading
@@ -47,263 +54,372 @@ none-filled [] t = refl
 none-filled (row ∷ rows) t =
     rw (and-left (isEmpty row) (all isEmpty rows) t) (none-filled rows (and-right (isEmpty row) (all isEmpty rows) t))
 
--- the Beneficiary Date of an empty row is 0, that of a good row is not
-empty-date : (row : Row) → isEmpty row ≡ true → row .beneficiaryDate ≡ 0
-unfolding isEmpty
-empty-date row e = eqb-true (row .beneficiaryDate) 0 (search (and-left, and-right, e) depth 12)
+-- ---- either date
 
-good-date : (last : ℕ) (row : Row) → goodRow last row ≡ true → 0 < row .beneficiaryDate
+-- that of the row before, by the dates of its Record Date and its Beneficiary Date
+startAt : ℕ → ℕ → ℕ → ℕ
+startAt zero a b = a
+startAt (suc column) a b = b
+
+-- the dates of an empty row are 0, those of a good row are not
+empty-date : (column : ℕ) (row : Row) → isEmpty row ≡ true → dateAt column row ≡ 0
+unfolding dateAt isEmpty
+empty-date zero row e = eqb-true (row .recordDate) 0 (search (and-left, and-right, e) depth 12)
+empty-date (suc column) row e = eqb-true (row .beneficiaryDate) 0 (search (and-left, and-right, e) depth 12)
+
+date-positive : (date : ℕ) → isDate date ≡ true → 0 < date
 unfolding isDate
-good-date last row e =
-    let h = leb-true 20000101 (row .beneficiaryDate) (and-left _ _ (good-row last row e .beneficiary-date)) in
-    omega arith
+date-positive date e = let h = leb-true 20000101 date (and-left _ _ e) in omega arith
+
+good-date : (column last : ℕ) (row : Row) → goodRow last row ≡ true → 0 < dateAt column row
+unfolding dateAt
+good-date zero last row e = date-positive (row .recordDate) (good-row last row e .record-date)
+good-date (suc column) last row e = date-positive (row .beneficiaryDate) (good-row last row e .beneficiary-date)
+
+later-date : (column a b : ℕ) (row : Row) → a < row .recordDate → b < row .beneficiaryDate → startAt column a b < dateAt column row
+unfolding dateAt startAt
+later-date zero a b row h k = h
+later-date (suc column) a b row h k = k
+
+start-date : (column : ℕ) (row : Row) → startAt column (row .recordDate) (row .beneficiaryDate) ≡ dateAt column row
+unfolding dateAt startAt
+start-date zero row = refl
+start-date (suc column) row = refl
 
 module _ (last day : ℕ) where
-  -- rows on or before the day, of the filled ones
-  dated : List Row → List Row
-  dated rows = select (λ row. leb (row .beneficiaryDate) day) (select isFilled rows)
-
   -- what follows a row that is good
   abbrev Follows : Row → List Row → Type 0
   Follows row rows = goodRows last (row .recordDate) (row .beneficiaryDate) rows ≡ true
 
-  -- a row of good rows: empty, and so are those behind it; or good and later than the row before
-  data Case (b : ℕ) (row : Row) (rows : List Row) : Type 0 where
-    empty : isEmpty row ≡ true → all isEmpty rows ≡ true → Case b row rows
-    filled : isEmpty row ≡ false → goodRow last row ≡ true → b < row .beneficiaryDate → Follows row rows → Case b row rows
+  -- a row of good rows: empty, and so are those behind it; or good and later by both dates than the row before
+  data Case (a b : ℕ) (row : Row) (rows : List Row) : Type 0 where
+    empty : isEmpty row ≡ true → all isEmpty rows ≡ true → Case a b row rows
+    filled : isEmpty row ≡ false → goodRow last row ≡ true → a < row .recordDate → b < row .beneficiaryDate → Follows row rows → Case a b row rows
 
-  cases : (a b : ℕ) (row : Row) (rows : List Row) → goodRows last a b (row ∷ rows) ≡ true → Case b row rows
+  cases : (a b : ℕ) (row : Row) (rows : List Row) → goodRows last a b (row ∷ rows) ≡ true → Case a b row rows
   unfolding goodRows
   cases a b row rows e = go (isEmpty row) refl e
     where
       go : (c : Bool) → isEmpty row ≡ c
           → cond c (all isEmpty rows)
           (goodRow last row && ltb a (row .recordDate) && ltb b (row .beneficiaryDate) && goodRows last (row .recordDate) (row .beneficiaryDate) rows) ≡ true
-          → Case b row rows
+          → Case a b row rows
       go true q e = empty q e
       go false q e =
-          filled q (search (and-left, and-right, e) depth 8) (ltb-true b (row .beneficiaryDate) (search (and-left, and-right, e) depth 8))
-          (search (and-left, and-right, e) depth 8)
+          filled q (search (and-left, and-right, e) depth 8) (ltb-true a (row .recordDate) (search (and-left, and-right, e) depth 8))
+          (ltb-true b (row .beneficiaryDate) (search (and-left, and-right, e) depth 8)) (search (and-left, and-right, e) depth 8)
 
-  -- nothing behind a later date is dated
-  none-dated : (a b : ℕ) (rows : List Row) → goodRows last a b rows ≡ true → day < b → dated rows ≡ []
-  unfolding dated select isFilled
-  none-dated a b [] e h = refl
-  none-dated a b (row ∷ rows) e h = go (cases a b row rows e) (none-dated (row .recordDate) (row .beneficiaryDate) rows)
+  -- ---- the rows that the day has reached come first
+
+  module _ (column : ℕ) where
+    -- rows with the date on or before the day, of the filled ones
+    dated : List Row → List Row
+    dated rows = select (λ row. leb (dateAt column row) day) (select isFilled rows)
+
+    -- nothing behind a later date is dated
+    none-dated : (a b : ℕ) (rows : List Row) → goodRows last a b rows ≡ true → day < startAt column a b → dated rows ≡ []
+    unfolding dated select isFilled
+    none-dated a b [] e h = refl
+    none-dated a b (row ∷ rows) e h = go (cases a b row rows e) (none-dated (row .recordDate) (row .beneficiaryDate) rows)
+      where
+        go : Case a b row rows → (Follows row rows → day < startAt column (row .recordDate) (row .beneficiaryDate) → dated rows ≡ [])
+            → dated (row ∷ rows) ≡ []
+        go (empty q n) ih = rw (q, none-filled rows n)
+        go (filled q g l k f) ih =
+            let d : day < dateAt column row = omega (arith, later-date column a b row l k) in
+            rw (q, lt-leb (dateAt column row) day d) (ih f (omega (arith, start-date column row)))
+
+    -- the dated rows are the leading ones that are reached, and each of these is good
+    dated-leading : (a b : ℕ) (rows : List Row) → goodRows last a b rows ≡ true → dated rows ≡ take (leading (isReached column day) rows) rows
+    unfolding dated select isFilled leading isReached
+    dated-leading a b [] e = refl
+    dated-leading a b (row ∷ rows) e = go (cases a b row rows e) (dated-leading (row .recordDate) (row .beneficiaryDate) rows)
+      where
+        later : (c : Bool) → leb (dateAt column row) day ≡ c → Follows row rows
+            → (Follows row rows → dated rows ≡ take (leading (isReached column day) rows) rows)
+            → cond c (row ∷ dated rows) (dated rows) ≡ take (cond c (suc (leading (isReached column day) rows)) 0) (row ∷ rows)
+        later true q f ih = ap (_∷_ row) (ih f)
+        later false q f ih =
+            none-dated (row .recordDate) (row .beneficiaryDate) rows f (omega (arith, start-date column row, leb-false (dateAt column row) day q))
+
+        go : Case a b row rows → (Follows row rows → dated rows ≡ take (leading (isReached column day) rows) rows)
+            → dated (row ∷ rows) ≡ take (leading (isReached column day) (row ∷ rows)) (row ∷ rows)
+        go (empty q n) ih = rw (q, none-filled rows n, le-ltb 0 (dateAt column row) (omega (arith, empty-date column row q)))
+        go (filled q g l k f) ih =
+            rw (q, lt-ltb 0 (dateAt column row) (good-date column last row g)) (later (leb (dateAt column row) day) refl f ih)
+
+    leading-good : (a b : ℕ) (rows : List Row) → goodRows last a b rows ≡ true → (i : ℕ) (d : Row) → i < leading (isReached column day) rows
+        → goodRow last (getD rows i d) ≡ true
+    unfolding leading isReached
+    leading-good a b [] e i d h = absurd (not-suc-le-zero h)
+    leading-good a b (row ∷ rows) e i d h =
+        go (cases a b row rows e) i h (leading-good (row .recordDate) (row .beneficiaryDate) rows)
+      where
+        behind : (c : Bool) (i : ℕ) → i < cond c (suc (leading (isReached column day) rows)) 0 → goodRow last row ≡ true
+            → ((j : ℕ) → j < leading (isReached column day) rows → goodRow last (getD rows j d) ≡ true) → goodRow last (getD (row ∷ rows) i d) ≡ true
+        behind false i h g ih = absurd (not-suc-le-zero h)
+        behind true zero h g ih = g
+        behind true (suc i) h g ih = ih i (le-of-suc-le-suc h)
+
+        go : Case a b row rows → (i : ℕ) → i < leading (isReached column day) (row ∷ rows)
+            → (Follows row rows → (j : ℕ) (d : Row) → j < leading (isReached column day) rows → goodRow last (getD rows j d) ≡ true)
+            → goodRow last (getD (row ∷ rows) i d) ≡ true
+        go (empty q n) i h ih =
+            absurd (not-suc-le-zero (rw (le-ltb 0 (dateAt column row) (omega (arith, empty-date column row q))) at h))
+        go (filled q g l k f) i h ih = behind (isReached column day row) i h g (λ j k. ih f j d k)
+
+  -- ---- interim rows stand behind the rows that the day has reached by Beneficiary Date
+
+  between : List Row → List Row
+  between rows = select (isInterim day) (select isFilled rows)
+
+  abbrev reached : List Row → ℕ
+  reached rows = leading (isReached 1 day) rows
+
+  abbrev recorded : List Row → ℕ
+  recorded rows = leading (isReached 0 day) rows
+
+  -- nothing behind a later Record Date is interim
+  none-between : (a b : ℕ) (rows : List Row) → goodRows last a b rows ≡ true → day < a → between rows ≡ []
+  unfolding between select isFilled isInterim
+  none-between a b [] e h = refl
+  none-between a b (row ∷ rows) e h = go (cases a b row rows e) (none-between (row .recordDate) (row .beneficiaryDate) rows)
     where
-      go : Case b row rows → (Follows row rows → day < row .beneficiaryDate → dated rows ≡ []) → dated (row ∷ rows) ≡ []
+      go : Case a b row rows → (Follows row rows → day < row .recordDate → between rows ≡ []) → between (row ∷ rows) ≡ []
       go (empty q n) ih = rw (q, none-filled rows n)
-      go (filled q g l f) ih = rw (q, lt-leb (row .beneficiaryDate) day (omega arith)) (ih f (omega arith))
+      go (filled q g l k f) ih = rw (q, lt-leb (row .recordDate) day (omega arith)) (ih f (omega arith))
 
-  -- the dated rows are the leading ones that are reached, and each of these is good
-  dated-leading : (a b : ℕ) (rows : List Row) → goodRows last a b rows ≡ true → dated rows ≡ take (leading (isReached day) rows) rows
-  unfolding dated select isFilled leading isReached
-  dated-leading a b [] e = refl
-  dated-leading a b (row ∷ rows) e = go (cases a b row rows e) (dated-leading (row .recordDate) (row .beneficiaryDate) rows)
+  -- behind a later Beneficiary Date the Record Date alone decides
+  by-record : (a b : ℕ) (rows : List Row) → goodRows last a b rows ≡ true → day < b → between rows ≡ dated 0 rows
+  unfolding between dated select isFilled isInterim dateAt
+  by-record a b [] e h = refl
+  by-record a b (row ∷ rows) e h = go (cases a b row rows e) (by-record (row .recordDate) (row .beneficiaryDate) rows)
     where
-      later : (c : Bool) → leb (row .beneficiaryDate) day ≡ c → Follows row rows → (Follows row rows → dated rows ≡ take (leading (isReached day) rows) rows)
-          → cond c (row ∷ dated rows) (dated rows) ≡ take (cond c (suc (leading (isReached day) rows)) 0) (row ∷ rows)
-      later true q f ih = ap (_∷_ row) (ih f)
-      later false q f ih = none-dated (row .recordDate) (row .beneficiaryDate) rows f (leb-false (row .beneficiaryDate) day q)
+      go : Case a b row rows → (Follows row rows → day < row .beneficiaryDate → between rows ≡ dated 0 rows) → between (row ∷ rows) ≡ dated 0 (row ∷ rows)
+      go (empty q n) ih = rw (q, none-filled rows n)
+      go (filled q g l k f) ih =
+          rw (q, lt-ltb day (row .beneficiaryDate) (omega arith), and-true (leb (row .recordDate) day), ← ih f (omega arith))
 
-      go : Case b row rows → (Follows row rows → dated rows ≡ take (leading (isReached day) rows) rows)
-          → dated (row ∷ rows) ≡ take (leading (isReached day) (row ∷ rows)) (row ∷ rows)
-      go (empty q n) ih = rw (q, none-filled rows n, le-ltb 0 (row .beneficiaryDate) (omega (arith, empty-date row q)))
-      go (filled q g l f) ih = rw (q, lt-ltb 0 (row .beneficiaryDate) (good-date last row g)) (later (leb (row .beneficiaryDate) day) refl f ih)
+  by-first : (row : Row) (rows : List Row) → isEmpty row ≡ false → Follows row rows → day < row .beneficiaryDate
+      → between (row ∷ rows) ≡ dated 0 (row ∷ rows)
+  unfolding between dated select isFilled isInterim dateAt
+  by-first row rows q f h =
+      rw (q, lt-ltb day (row .beneficiaryDate) h, and-true (leb (row .recordDate) day), ← by-record (row .recordDate) (row .beneficiaryDate) rows f h)
 
-  leading-good : (a b : ℕ) (rows : List Row) → goodRows last a b rows ≡ true → (i : ℕ) (d : Row) → i < leading (isReached day) rows
-      → goodRow last (getD rows i d) ≡ true
-  unfolding leading isReached
-  leading-good a b [] e i d h = absurd (not-suc-le-zero h)
-  leading-good a b (row ∷ rows) e i d h =
-      go (cases a b row rows e) i h (leading-good (row .recordDate) (row .beneficiaryDate) rows)
+  abbrev Between : List Row → Type 0
+  Between rows = between rows ≡ take (recorded rows - reached rows) (drop (reached rows) rows)
+
+  interim-rows : (a b : ℕ) (rows : List Row) → goodRows last a b rows ≡ true → Between rows
+  unfolding between select isFilled isInterim leading isReached dateAt
+  interim-rows a b [] e = refl
+  interim-rows a b (row ∷ rows) e = go (cases a b row rows e) (interim-rows (row .recordDate) (row .beneficiaryDate) rows)
     where
-      behind : (c : Bool) (i : ℕ) → i < cond c (suc (leading (isReached day) rows)) 0 → goodRow last row ≡ true
-          → ((j : ℕ) → j < leading (isReached day) rows → goodRow last (getD rows j d) ≡ true) → goodRow last (getD (row ∷ rows) i d) ≡ true
-      behind false i h g ih = absurd (not-suc-le-zero h)
-      behind true zero h g ih = g
-      behind true (suc i) h g ih = ih i (le-of-suc-le-suc h)
+      all-rows : between (row ∷ rows) ≡ dated 0 (row ∷ rows) → between (row ∷ rows) ≡ take (recorded (row ∷ rows)) (row ∷ rows)
+      all-rows h = h ∙ dated-leading 0 a b (row ∷ rows) e
 
-      go : Case b row rows → (i : ℕ) → i < leading (isReached day) (row ∷ rows)
-          → (Follows row rows → (j : ℕ) (d : Row) → j < leading (isReached day) rows → goodRow last (getD rows j d) ≡ true)
-          → goodRow last (getD (row ∷ rows) i d) ≡ true
-      go (empty q n) i h ih =
-          absurd (not-suc-le-zero (rw (le-ltb 0 (row .beneficiaryDate) (omega (arith, empty-date row q))) at h))
-      go (filled q g l f) i h ih = behind (isReached day row) i h g (λ j k. ih f j d k)
+      -- the day has reached the row's Beneficiary Date, and its Record Date or not
+      passed : (d : Bool) → leb (row .recordDate) day ≡ d → Follows row rows → Between rows
+          → between rows ≡ take (cond d (suc (recorded rows)) 0 - suc (reached rows)) (drop (reached rows) rows)
+      passed true q f ih =
+          let k : recorded rows - reached rows ≡ suc (recorded rows) - suc (reached rows) = omega arith in
+          ih ∙ ap (λ (n : ℕ). take n (drop (reached rows) rows)) k
+      passed false q f ih =
+          let k : 0 ≡ 0 - suc (reached rows) = omega arith in
+          none-between (row .recordDate) (row .beneficiaryDate) rows f (leb-false (row .recordDate) day q)
+          ∙ ap (λ (n : ℕ). take n (drop (reached rows) rows)) k
 
--- ---- claims, one row after the other
+      here : (d : Bool) → leb (row .beneficiaryDate) day ≡ d → isEmpty row ≡ false → goodRow last row ≡ true → Follows row rows
+          → (Follows row rows → Between rows) → Between (row ∷ rows)
+      here true t q g f ih =
+          let b = leb-true (row .beneficiaryDate) day t in
+          rw (q, t, le-ltb day (row .beneficiaryDate) b, lt-ltb 0 (row .beneficiaryDate) (good-date 1 last row g), lt-ltb 0 (row .recordDate) (good-date 0 last row g), and-false (leb (row .recordDate) day))
+          (passed (leb (row .recordDate) day) refl f (ih f))
+      here false t q g f ih =
+          all-rows (by-first row rows q f (leb-false (row .beneficiaryDate) day t))
+          ∙ rw (t, and-false (ltb 0 (row .beneficiaryDate))) (ap (λ (n : ℕ). take n (row ∷ rows)) (sym (sub-zero (recorded (row ∷ rows)))))
 
--- a claim for each row that passes a test
-select-each : {A B : Type 0} (p : A → Bool) (f : A → B) (xs : List A) → map f (select p xs) ≡ eachOf xs (λ x. cond (p x) (f x ∷ []) [])
-unfolding select eachOf
-select-each p f [] = refl
-select-each p f (x ∷ xs) = go (p x) (select-each p f xs)
-  where
-    go : (b : Bool) → map f (select p xs) ≡ eachOf xs (λ x. cond (p x) (f x ∷ []) [])
-        → map f (cond b (x ∷ select p xs) (select p xs)) ≡ cond b (f x ∷ []) [] ++ eachOf xs (λ x. cond (p x) (f x ∷ []) [])
-    go true ih = ap (_∷_ (f x)) ih
-    go false ih = ih
-
-module _ {A B : Type 0} (f : A → List B) where
-  each-of-append : (xs ys : List A) → eachOf (xs ++ ys) f ≡ eachOf xs f ++ eachOf ys f
-  unfolding eachOf
-  each-of-append [] ys = refl
-  each-of-append (x ∷ xs) ys = ap (λ (r : List B). f x ++ r) (each-of-append xs ys) ∙ sym (append-assoc (f x) (eachOf xs f) (eachOf ys f))
-
-  -- a run for each of the first n elements is a run for each place below n
-  each-of-take : (xs : List A) (d : A) (n : ℕ) → n ≤ length xs → eachOf (take n xs) f ≡ each n (λ j. f (getD xs j d))
-  unfolding each
-  each-of-take xs d zero h = unfold eachOf in refl
-  each-of-take xs d (suc n) h =
-      ap (λ (l : List A). eachOf l f) (take-suc xs n d h)
-      ∙ each-of-append (take n xs) (getD xs n d ∷ [])
-      ∙ ap₂ (λ (r s : List B). r ++ s) (each-of-take xs d n (omega arith)) (unfold eachOf in append-nil (f (getD xs n d)))
-
-each-agree : {B : Type 0} (f g : ℕ → List B) (n : ℕ) → ((j : ℕ) → j < n → f j ≡ g j) → each n f ≡ each n g
-unfolding each
-each-agree f g zero h = refl
-each-agree f g (suc n) h = ap₂ (λ (r s : List _). r ++ s) (each-agree f g n (λ j k. h j (omega arith))) (h n (omega arith))
-
-map-map : {A B C : Type 0} (f : B → C) (g : A → B) (xs : List A) → map f (map g xs) ≡ map (λ x. f (g x)) xs
-map-map f g [] = refl
-map-map f g (x ∷ xs) = ap (_∷_ (f (g x))) (map-map f g xs)
+      go : Case a b row rows → (Follows row rows → Between rows) → Between (row ∷ rows)
+      go (empty q n) ih =
+          rw (q, none-filled rows n, le-ltb 0 (row .beneficiaryDate) (omega (arith, empty-date 1 row q)), le-ltb 0 (row .recordDate) (omega (arith, empty-date 0 row q)))
+      go (filled q g l k f) ih = here (leb (row .beneficiaryDate) day) refl q g f ih
 
 -- ---- the claims of a transfer
 
 module _ (calendar tables : List ℕ) (day number : ℕ) (t : Transfer) where
+  abbrev pub claimed : ℕ → Row → Claim
+  claimed claimType row = claimOn calendar tables day number (transferParties t) (t .par) claimType row
+
   pub none-by-code : (tag : Tag) → (t .code ≡ 0 → ⊥) → transferClaims calendar tables day number t tag ≡ []
   unfolding transferClaims dues fails
   none-by-code tag h = rw (ne-eqb (t .code) 0 h)
 
-  pub none-untagged : (tag : Tag) → tagged tag ≡ false → transferClaims calendar tables day number t tag ≡ []
+  -- with tracking code 0: on the eligible rows where there is a tag, then on the interim rows
+  pub claims-by-rows : (tag : Tag) → t .code ≡ 0
+      → transferClaims calendar tables day number t tag
+      ≡ cond (tagged tag) (map (claimed failType) (eligible tables day t tag)) [] ++ map (claimed interimType) (interim tables day t)
   unfolding transferClaims dues fails
-  none-untagged tag h = rw h (go (eqb (t .code) 0))
+  claims-by-rows tag z =
+      rw (eq-eqb (t .code) 0 z)
+      (map-append claim (cond (tagged tag) (map (due failType) (eligible tables day t tag)) []) _
+      ∙ ap₂ (λ (xs ys : List Claim). xs ++ ys) (go (tagged tag)) (map-map claim (due interimType) (interim tables day t)))
     where
       claim : Due → Claim
-      claim d = claimOn calendar tables day number (transferParties t) (t .par) (d .claimType) (d .row)
+      claim d = claimed (d .claimType) (d .row)
 
-      go : (b : Bool) → map claim (cond (b && false) (map (due failType) (eligible tables day t tag)) []) ≡ []
-      go true = refl
+      go : (b : Bool) → map claim (cond b (map (due failType) (eligible tables day t tag)) []) ≡ cond b (map (claimed failType) (eligible tables day t tag)) []
+      go true = map-map claim (due failType) (eligible tables day t tag)
       go false = refl
 
-  -- a failed transfer: a claim on each of its eligible rows
-  fail-claims : (date : Date) → t .code ≡ 0
-      → transferClaims calendar tables day number t (On date)
-      ≡ map (claimOn calendar tables day number (transferParties t) (t .par) failType)
-      (select (λ row. ltb (date .0) (row .beneficiaryDate))
-      (lastOf (maximumFor maximumNumbers (typeOf (securityOf tables (t .security))) (frequencyOf (securityOf tables (t .security))))
-      (select (λ row. leb (row .beneficiaryDate) day) (filledRows tables (t .security)))))
-  unfolding transferClaims dues fails tagged eligible eligibleIn contractDate
-  fail-claims date z = rw (eq-eqb (t .code) 0 z) (map-map _ (due failType) (eligible tables day t (On date)))
+-- ---- the rows of a transfer's security
 
-  fail-select : (date : Date) (l : List Row)
-      → map (claimOn calendar tables day number (transferParties t) (t .par) failType) (select (λ row. ltb (date .0) (row .beneficiaryDate)) l)
-      ≡ eachOf l (failClaim calendar tables day number t (date .0))
-  unfolding failClaim
-  fail-select date l = select-each (λ row. ltb (date .0) (row .beneficiaryDate)) (claimOn calendar tables day number (transferParties t) (t .par) failType) l
+module _ (calendar tables : List ℕ) (day : ℕ) (t : Transfer) where
+  unfoldable pub rows : List Row
+  rows = rowsOf (securityOf tables (t .security))
+
+  pub length-rows : length rows ≡ 16
+  unfolding rows
+  length-rows = length-rows-of tables (t .security)
+
+  pub row-behind : (k j : ℕ) (d : Row) → k + j < 16 → getD (drop k rows) j d ≡ rowAt tables (t .security) (k + j)
+  unfolding rows
+  row-behind k j d h = getD-drop k rows j d ∙ rows-of-at tables (t .security) (k + j) d h
+
+  few-reached : (column : ℕ) → reachedRows column tables (t .security) day ≤ 16
+  unfolding reachedRows rows
+  few-reached column = omega (arith, leading-within (isReached column day) rows, length-rows)
+
+  abbrev reachedBy : ℕ → ℕ
+  reachedBy column = reachedRows column tables (t .security) day
+
+  abbrev mbs : Bool
+  mbs = isMbs (typeOf (securityOf tables (t .security)))
+
+  -- the interim rows end with those that the day has reached by Record Date, or there are none
+  data End : Type 0 where
+    some : mbs ≡ true → reachedBy 1 < reachedBy 0 → interimEnd tables (t .security) day ≡ reachedBy 0 → End
+    none : (mbs ≡ true → reachedBy 0 ≤ reachedBy 1) → interimEnd tables (t .security) day ≡ reachedBy 1 → End
+
+  end : End
+  unfolding interimEnd
+  end = go mbs refl (ltb (reachedBy 1) (reachedBy 0)) refl
+    where
+      go : (a : Bool) → mbs ≡ a → (b : Bool) → ltb (reachedBy 1) (reachedBy 0) ≡ b → End
+      go true p true q = some p (ltb-true (reachedBy 1) (reachedBy 0) q) (rw (p, q))
+      go true p false q = none (λ e. ltb-false (reachedBy 1) (reachedBy 0) q) (rw (p, q))
+      go false p b q = none (λ e. absurd (true≢false (sym e ∙ p))) (rw p)
+
+  pub reached-end : (reachedBy 1 ≤ interimEnd tables (t .security) day) × (interimEnd tables (t .security) day ≤ 16)
+  reached-end = go end
+    where
+      go : End → (reachedBy 1 ≤ interimEnd tables (t .security) day) × (interimEnd tables (t .security) day ≤ 16)
+      go (some p l e) = (omega arith, omega (arith, few-reached 0))
+      go (none n e) = (omega arith, omega (arith, few-reached 1))
 
   module _ (sound : goodTables calendar tables ≡ true) (held : t .security < 16) where
-    rows : List Row
-    rows = rowsOf (securityOf tables (t .security))
-
-    length-rows : length rows ≡ 16
-    unfolding rows
-    length-rows = length-rows-of tables (t .security)
-
-    pub few-reached : reachedRows tables (t .security) day ≤ 16
-    unfolding reachedRows rows
-    few-reached = omega (arith, leading-within (isReached day) rows, length-rows)
-
     -- a row that the day has reached keeps the rules
-    reached-good : (i : ℕ) → i < reachedRows tables (t .security) day → Good (lastOpen calendar) (rowAt tables (t .security) i)
+    reached-good : (column i : ℕ) → i < reachedBy column → Good (lastOpen calendar) (rowAt tables (t .security) i)
     unfolding reachedRows
-    reached-good i h =
+    reached-good column i h =
         let row = rowAt tables (t .security) i in
-        let g = leading-good (lastOpen calendar) day 0 0 _ (good-rows calendar tables (t .security) sound held) i row h in
-        good-row (lastOpen calendar) row (rw (rows-of-at tables (t .security) i row (omega (arith, few-reached))) at g)
+        let g = leading-good (lastOpen calendar) day column 0 0 _ (good-rows calendar tables (t .security) sound held) i row h in
+        good-row (lastOpen calendar) row (rw (rows-of-at tables (t .security) i row (omega (arith, few-reached column))) at g)
 
-    pub failing : {n : ℕ} → n ≡ reachedRows tables (t .security) day → length calendar ≡ 480 → length tables ≡ 1824 → t .sender < 16
-        → Failing calendar tables t n
-    failing e c l p =
-        rw e record {
-          months = c;
-          words = l;
-          held = held;
-          paying = p;
-          rows = few-reached;
-          interest = λ i h. reached-good i h .interest;
-          principal = λ i h. reached-good i h .principal;
-        }
+    -- claims on the rows up to the end of the interim rows ask no more than is there
+    pub claiming : length calendar ≡ 480 → length tables ≡ 1824 → t .sender < 16 → Claiming calendar tables t (interimEnd tables (t .security) day)
+    claiming c l p = go end
+      where
+        by : (column : ℕ) → interimEnd tables (t .security) day ≡ reachedBy column → Claiming calendar tables t (interimEnd tables (t .security) day)
+        by column e =
+            rw e record {
+              months = c;
+              words = l;
+              held = held;
+              paying = p;
+              rows = few-reached column;
+              interest = λ i h. reached-good column i h .interest;
+              principal = λ i h. reached-good column i h .principal;
+            }
 
-    -- the last rows, up to a maximum number, of those on or before the day
-    last-reached : (maximum n k : ℕ) → n ≡ reachedRows tables (t .security) day → k ≡ n - maximum
-        → lastOf maximum (select (λ row. leb (row .beneficiaryDate) day) (filledRows tables (t .security))) ≡ take (n - k) (drop k rows)
-    unfolding lastOf filledRows reachedRows rows dated
-    last-reached maximum n k e q =
-        let first : select (λ row. leb (row .beneficiaryDate) day) (filledRows tables (t .security)) ≡ take n rows
-        = dated-leading (lastOpen calendar) day 0 0 rows (good-rows calendar tables (t .security) sound held) ∙ ap (λ (m : ℕ). take m rows) (sym e) in
-        let long : length (take n rows) ≡ n = length-take-le n rows (omega (arith, leading-within (isReached day) rows)) in
-        rw (first, long, ← q) (drop-take k n rows)
+        go : End → Claiming calendar tables t (interimEnd tables (t .security) day)
+        go (some q h e) = by 0 e
+        go (none n e) = by 1 e
 
-    row-behind : (k j : ℕ) (d : Row) → k + j < 16 → getD (drop k rows) j d ≡ rowAt tables (t .security) (k + j)
-    unfolding rows
-    row-behind k j d h = getD-drop k rows j d ∙ rows-of-at tables (t .security) (k + j) d h
+    -- the last rows, up to a maximum number, of those with Beneficiary Date on or before the day
+    last-reached : (maximum : ℕ)
+        → lastOf maximum (select (λ row. leb (row .beneficiaryDate) day) (filledRows tables (t .security)))
+        ≡ take (reachedBy 1 - (reachedBy 1 - maximum)) (drop (reachedBy 1 - maximum) rows)
+    unfolding lastOf filledRows reachedRows rows dated dateAt
+    last-reached maximum =
+        let first : select (λ row. leb (row .beneficiaryDate) day) (filledRows tables (t .security)) ≡ take (reachedBy 1) rows
+        = dated-leading (lastOpen calendar) day 1 0 0 rows (good-rows calendar tables (t .security) sound held) in
+        let long : length (take (reachedBy 1) rows) ≡ reachedBy 1 = length-take-le (reachedBy 1) rows (omega (arith, leading-within (isReached 1 day) rows)) in
+        rw (first, long) (drop-take (reachedBy 1 - maximum) (reachedBy 1) rows)
 
-    -- the claims of a failed transfer: one row after the other, from the first of the last ones on
-    pub fail-each : {tag : Tag} {date : Date} {n m k : ℕ} → tag ≡ On date → t .code ≡ 0 → n ≡ reachedRows tables (t .security) day
-        → m ≡ maximumFor maximumNumbers (typeOf (securityOf tables (t .security))) (frequencyOf (securityOf tables (t .security))) → k ≡ n - m
-        → transferClaims calendar tables day number t tag
-        ≡ each (n - k) (λ j. failClaim calendar tables day number t (date .0) (rowAt tables (t .security) (k + j)))
-    fail-each {tag} {date} {n} {m} {k} g z e o q =
-        let here = rowAt tables (t .security) 0 in
-        let long : n - k ≤ length (drop k rows) = omega (arith, length-drop k rows, length-rows, few-reached) in
-        ap (transferClaims calendar tables day number t) g
-        ∙ fail-claims date z
-        ∙ ap (λ (l : List Row). map (claimOn calendar tables day number (transferParties t) (t .par) failType) (select (λ row. ltb (date .0) (row .beneficiaryDate)) l))
-        (last-reached _ n k e (q ∙ ap (λ (x : ℕ). n - x) o))
-        ∙ fail-select date (take (n - k) (drop k rows))
-        ∙ each-of-take (failClaim calendar tables day number t (date .0)) (drop k rows) here (n - k) long
-        ∙ each-agree _ _ (n - k) (λ j h.
-        ap (failClaim calendar tables day number t (date .0)) (row-behind k j here (omega (arith, few-reached))))
+    pub eligible-window : (tag : Tag)
+        → let first = reachedBy 1 - maximumFor maximumNumbers (typeOf (securityOf tables (t .security))) (frequencyOf (securityOf tables (t .security))) in
+        eligible tables day t tag ≡ select (λ row. ltb (contractDate tag) (row .beneficiaryDate)) (take (reachedBy 1 - first) (drop first rows))
+    unfolding eligible eligibleIn
+    eligible-window tag = ap (select (λ row. ltb (contractDate tag) (row .beneficiaryDate))) (last-reached _)
+
+    between-window : select (isInterim day) (filledRows tables (t .security)) ≡ take (reachedBy 0 - reachedBy 1) (drop (reachedBy 1) rows)
+    unfolding filledRows reachedRows rows between
+    between-window = interim-rows (lastOpen calendar) day 0 0 rows (good-rows calendar tables (t .security) sound held)
+
+    pub interim-window : interim tables day t ≡ take (interimEnd tables (t .security) day - reachedBy 1) (drop (reachedBy 1) rows)
+    unfolding interim interimIn
+    interim-window = go end
+      where
+        many : (n : ℕ) → n ≡ interimEnd tables (t .security) day - reachedBy 1
+            → take n (drop (reachedBy 1) rows) ≡ take (interimEnd tables (t .security) day - reachedBy 1) (drop (reachedBy 1) rows)
+        many n e = ap (λ (k : ℕ). take k (drop (reachedBy 1) rows)) e
+
+        go : End → cond mbs (select (isInterim day) (filledRows tables (t .security))) []
+            ≡ take (interimEnd tables (t .security) day - reachedBy 1) (drop (reachedBy 1) rows)
+        go (some q l e) = rw q (between-window ∙ many (reachedBy 0 - reachedBy 1) (omega arith))
+        go (none n e) = by mbs refl
+          where
+            by : (b : Bool) → mbs ≡ b → cond b (select (isInterim day) (filledRows tables (t .security))) []
+                ≡ take (interimEnd tables (t .security) day - reachedBy 1) (drop (reachedBy 1) rows)
+            by true q = between-window ∙ many (reachedBy 0 - reachedBy 1) (omega (arith, n q))
+            by false q = many 0 (omega arith)
 
 -- ---- how many claims
 
-select-within : {A : Type 0} (p : A → Bool) (xs : List A) → length (select p xs) ≤ length xs
-unfolding select
-select-within p [] = omega arith
-select-within p (x ∷ xs) = go (p x) (select-within p xs)
-  where
-    go : (b : Bool) → length (select p xs) ≤ length xs → length (cond b (x ∷ select p xs) (select p xs)) ≤ length (x ∷ xs)
-    go true h = omega arith
-    go false h = omega arith
-
-last-within : {A : Type 0} (n : ℕ) (xs : List A) → length (lastOf n xs) ≤ length xs
-unfolding lastOf
-last-within n xs = omega (arith, length-drop (length xs - n) xs)
+few-filled : (tables : List ℕ) (s : ℕ) → length (filledRows tables s) ≤ 16
+unfolding filledRows rowsOf
+few-filled tables s =
+    let all-rows = rowsFrom 16 0 (drop 2 (securityOf tables s)) in
+    omega (arith, rows-length 16 0 (drop 2 (securityOf tables s)), select-within isFilled all-rows)
 
 few-eligible : (tables : List ℕ) (day : ℕ) (t : Transfer) (tag : Tag) → length (eligible tables day t tag) ≤ 16
-unfolding eligible eligibleIn filledRows rowsOf
+unfolding eligible eligibleIn
 few-eligible tables day t tag =
     let words = securityOf tables (t .security) in
-    let reached = select (λ (row : Row). leb (row .beneficiaryDate) day) (select isFilled (rowsFrom 16 0 (drop 2 words))) in
+    let reached = select (λ (row : Row). leb (row .beneficiaryDate) day) (filledRows tables (t .security)) in
     let maximum = maximumFor maximumNumbers (typeOf words) (frequencyOf words) in
     omega (
       arith,
-      rows-length 16 0 (drop 2 words),
-      select-within isFilled (rowsFrom 16 0 (drop 2 words)),
-      select-within (λ (row : Row). leb (row .beneficiaryDate) day) (select isFilled (rowsFrom 16 0 (drop 2 words))),
+      few-filled tables (t .security),
+      select-within (λ (row : Row). leb (row .beneficiaryDate) day) (filledRows tables (t .security)),
       last-within maximum reached,
       select-within (λ (row : Row). ltb (contractDate tag) (row .beneficiaryDate)) (lastOf maximum reached),
     )
 
--- a transfer has at most 16 claims, whatever it is
-pub few-transfer : (calendar tables : List ℕ) (day number : ℕ) (t : Transfer) (tag : Tag) → length (transferClaims calendar tables day number t tag) ≤ 16
-unfolding transferClaims dues
-few-transfer calendar tables day number t tag = go (fails t tag)
+few-interim : (tables : List ℕ) (day : ℕ) (t : Transfer) → length (interim tables day t) ≤ 16
+unfolding interim interimIn
+few-interim tables day t = go (isMbs (typeOf (securityOf tables (t .security))))
   where
-    claim : Due → Claim
-    claim d = claimOn calendar tables day number (transferParties t) (t .par) (d .claimType) (d .row)
-
-    go : (b : Bool) → length (map claim (cond b (map (due failType) (eligible tables day t tag)) [])) ≤ 16
-    go true = simp length-map (few-eligible tables day t tag)
+    go : (b : Bool) → length (cond b (select (isInterim day) (filledRows tables (t .security))) []) ≤ 16
+    go true = omega (arith, few-filled tables (t .security), select-within (isInterim day) (filledRows tables (t .security)))
     go false = omega arith
+
+-- a transfer has at most 32 claims, whatever it is
+pub few-transfer : (calendar tables : List ℕ) (day number : ℕ) (t : Transfer) (tag : Tag) → length (transferClaims calendar tables day number t tag) ≤ 32
+unfolding transferClaims dues
+few-transfer calendar tables day number t tag =
+    simp (length-map, length-append)
+    (omega (arith, few (fails t tag) failType (eligible tables day t tag) (few-eligible tables day t tag), few (eqb (t .code) 0) interimType (interim tables day t) (few-interim tables day t)))
+  where
+    few : (b : Bool) (claimType : ℕ) (rs : List Row) → length rs ≤ 16 → length (cond b (map (due claimType) rs) []) ≤ 16
+    few true claimType rs h = simp length-map h
+    few false claimType rs h = omega arith

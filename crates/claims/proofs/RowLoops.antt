@@ -13,60 +13,59 @@ use Rattle.lists.specs.Tabulate.{each}
 use Rattle.records.specs.declared.Claim.{Claim}
 use Rattle.records.specs.declared.Transfer.{Transfer}
 use Rattle.securities.specs.Securities.{securityOf, Row, rowOf, rowsOf}
-use Rattle.claims.specs.Amounts.{claimOn}
-use Rattle.claims.specs.Fails.{transferParties}
 use Rattle.claims.specs.Claimable.{Claimable}
 use Rattle.claims.specs.Passes.{Free, Passed, pass-start, pass-more, pass-now, pass-end}
-use Rattle.claims.specs.Reached.{rowAt, leading, isReached, reachedRows, failClaim, Failing}
-use Rattle.claims.proofs.TableRows.{rows-of-at, beneficiary-word, length-rows-of}
+use Rattle.claims.specs.Reached.{rowAt, leading, dateAt, isReached, reachedRows, Claiming}
+use Rattle.claims.proofs.TableRows.{rows-of-at, date-word, length-rows-of}
 
 -- ---- the rows that the day has reached
 
 -- what the loop keeps: the rows below i are reached, those from i on decide
-pub record Reaching (tables : List ℕ) (s day i : ℕ) : Type 0 where
+pub record Reaching (column : ℕ) (tables : List ℕ) (s day i : ℕ) : Type 0 where
   pub small : i ≤ 16
-  pub rest : reachedRows tables s day ≡ i + leading (isReached day) (drop i (rowsOf (securityOf tables s)))
+  pub rest : reachedRows column tables s day ≡ i + leading (isReached column day) (drop i (rowsOf (securityOf tables s)))
 
-pub reach-start : (tables : List ℕ) (s day : ℕ) → Reaching tables s day 0
+pub reach-start : (column : ℕ) (tables : List ℕ) (s day : ℕ) → Reaching column tables s day 0
 unfolding reachedRows
-reach-start tables s day = record { small = omega arith; rest = sym (zero-add _) }
+reach-start column tables s day = record { small = omega arith; rest = sym (zero-add _) }
 
-module _ {tables : List ℕ} {s day i : ℕ} (k : Reaching tables s day i) (h : i < 16) where
-  leading-here : leading (isReached day) (drop i (rowsOf (securityOf tables s)))
-      ≡ cond (isReached day (rowAt tables s i)) (suc (leading (isReached day) (drop (suc i) (rowsOf (securityOf tables s))))) 0
+module _ {column : ℕ} {tables : List ℕ} {s day i : ℕ} (k : Reaching column tables s day i) (h : i < 16) (c : column < 2) where
+  leading-here : leading (isReached column day) (drop i (rowsOf (securityOf tables s)))
+      ≡ cond (isReached column day (rowAt tables s i)) (suc (leading (isReached column day) (drop (suc i) (rowsOf (securityOf tables s))))) 0
   unfolding leading
   leading-here =
       let rows = rowsOf (securityOf tables s) in
       let here = rowAt tables s i in
       rw (drop-cons rows i here (omega (arith, length-rows-of tables s)), rows-of-at tables s i here h)
 
-  pub reach-empty : getD tables (114 * s + 2 + 7 * i + 1) 0 ≡ 0 → i ≡ reachedRows tables s day
+  pub reach-empty : getD tables (114 * s + 2 + 7 * i + column) 0 ≡ 0 → i ≡ reachedRows column tables s day
   unfolding isReached
   reach-empty z =
-      let e : rowAt tables s i .beneficiaryDate ≡ 0 = sym (beneficiary-word tables s i) ∙ z in
+      let e : dateAt column (rowAt tables s i) ≡ 0 = sym (date-word tables s i column c) ∙ z in
       sym (k .rest ∙ rw (leading-here, e) (add-zero i))
 
-  pub reach-later : day < getD tables (114 * s + 2 + 7 * i + 1) 0 → i ≡ reachedRows tables s day
+  pub reach-later : day < getD tables (114 * s + 2 + 7 * i + column) 0 → i ≡ reachedRows column tables s day
   unfolding isReached
   reach-later l =
-      let date = rowAt tables s i .beneficiaryDate in
-      let m : day < date = subst (λ (x : ℕ). day < x) (beneficiary-word tables s i) l in
+      let date = dateAt column (rowAt tables s i) in
+      let m : day < date = subst (λ (x : ℕ). day < x) (date-word tables s i column c) l in
       sym (k .rest ∙ rw (leading-here, lt-ltb 0 date (omega arith), lt-leb date day m) (add-zero i))
 
-  pub reach-next : (getD tables (114 * s + 2 + 7 * i + 1) 0 ≡ 0 → ⊥) → getD tables (114 * s + 2 + 7 * i + 1) 0 ≤ day → Reaching tables s day (i + 1)
+  pub reach-next : (getD tables (114 * s + 2 + 7 * i + column) 0 ≡ 0 → ⊥) → getD tables (114 * s + 2 + 7 * i + column) 0 ≤ day
+      → Reaching column tables s day (i + 1)
   unfolding isReached
   reach-next z l =
-      let date = rowAt tables s i .beneficiaryDate in
-      let e : getD tables (114 * s + 2 + 7 * i + 1) 0 ≡ date = beneficiary-word tables s i in
+      let date = dateAt column (rowAt tables s i) in
+      let e : getD tables (114 * s + 2 + 7 * i + column) 0 ≡ date = date-word tables s i column c in
       let n : 0 < date = omega arith in
       record {
         small = omega arith;
         rest = k .rest ∙ rw (leading-here, lt-ltb 0 date n, le-leb date day (omega arith), add-one) (omega arith);
       }
 
-pub reach-end : {tables : List ℕ} {s day i : ℕ} → Reaching tables s day i → 16 ≤ i → i ≡ reachedRows tables s day
+pub reach-end : {column : ℕ} {tables : List ℕ} {s day i : ℕ} → Reaching column tables s day i → 16 ≤ i → i ≡ reachedRows column tables s day
 unfolding leading
-reach-end {tables} {s} {day} {i} k h =
+reach-end {column} {tables} {s} {day} {i} k h =
     let none : drop i (rowsOf (securityOf tables s)) ≡ [] = drop-of-length-le _ {i = i} (omega (arith, length-rows-of tables s)) in
     sym (k .rest ∙ rw none (add-zero i))
 
@@ -98,36 +97,22 @@ module _ (w : Bool) (l : List ℕ) (claims : ℕ → List Claim) (count : ℕ) w
 -- ---- the claim on a row
 
 -- the seven words of a row, as a part of the tables that ends behind them
-abbrev wordsAt : List ℕ → ℕ → ℕ → List ℕ
+abbrev pub wordsAt : List ℕ → ℕ → ℕ → List ℕ
 wordsAt tables s i =
     let at = 114 * s + 2 + 7 * i in
     take (at + 7 - at) (drop at tables)
 
-words-row : (tables : List ℕ) (s i : ℕ) → rowOf i (wordsAt tables s i) ≡ rowAt tables s i
+pub words-row : (tables : List ℕ) (s i : ℕ) → rowOf i (wordsAt tables s i) ≡ rowAt tables s i
 unfolding rowAt
 words-row tables s i =
     let at = 114 * s + 2 + 7 * i in
     let e : at + 7 - at ≡ 7 = omega arith in
     ap (λ (k : ℕ). rowOf i (take k (drop at tables))) e
 
-seven-words : (tables : List ℕ) (s i : ℕ) → length tables ≡ 1824 → s < 16 → i < 16 → length (wordsAt tables s i) ≡ 7
+pub seven-words : (tables : List ℕ) (s i : ℕ) → length tables ≡ 1824 → s < 16 → i < 16 → length (wordsAt tables s i) ≡ 7
 seven-words tables s i l h k = simp (length-take, length-drop) (omega arith)
 
-module _ (calendar tables : List ℕ) (day number : ℕ) (t : Transfer) (contract i : ℕ) where
-  pub fail-none : getD (wordsAt tables (t .security) i) 1 0 ≤ contract
-      → failClaim calendar tables day number t contract (rowAt tables (t .security) i) ≡ []
-  unfolding failClaim rowOf
-  fail-none h = rw (← words-row tables (t .security) i, le-ltb contract (getD (wordsAt tables (t .security) i) 1 0) h)
-
-  pub fail-one : (par : ℕ) (c : Claim) → contract < getD (wordsAt tables (t .security) i) 1 0 → par ≡ t .par
-      → c ≡ claimOn calendar tables day number (record { security = t .security; payee = t .receiver; payer = t .sender }) par 1
-      (rowOf i (wordsAt tables (t .security) i))
-      → failClaim calendar tables day number t contract (rowAt tables (t .security) i) ≡ c ∷ []
-  unfolding failClaim rowOf transferParties
-  fail-one par c h e q =
-      rw (← words-row tables (t .security) i, lt-ltb contract (getD (wordsAt tables (t .security) i) 1 0) h, ← e, ← q)
-
-pub claimable : {calendar tables : List ℕ} {t : Transfer} (i : ℕ) {par : ℕ} → Failing calendar tables t (i + 1) → t .par ≤ 9000000000 → par ≡ t .par
+pub claimable : {calendar tables : List ℕ} {t : Transfer} (i : ℕ) {par : ℕ} → Claiming calendar tables t (i + 1) → t .par ≤ 9000000000 → par ≡ t .par
     → Claimable calendar tables (t .security) (t .sender) par (wordsAt tables (t .security) i)
 unfolding rowOf
 claimable {calendar} {tables} {t} i f h e =
@@ -144,8 +129,8 @@ claimable {calendar} {tables} {t} i f h e =
     }
 
 -- what claims on n rows ask, claims on fewer do too
-pub failing-below : {calendar tables : List ℕ} {t : Transfer} {m n : ℕ} → m ≤ n → Failing calendar tables t n → Failing calendar tables t m
-failing-below h f =
+pub claiming-below : {calendar tables : List ℕ} {t : Transfer} {m n : ℕ} → m ≤ n → Claiming calendar tables t n → Claiming calendar tables t m
+claiming-below h f =
     record {
       months = f .months;
       words = f .words;

@@ -19,20 +19,24 @@ use Rattle.claims.proofs.Opened.{openedClaims}
 -- ---- messages
 
 -- a line with a Contract Date tag, {98A:CNTR/yyyymmdd}, and a line of spaces
-tagLine : ℕ → List ℕ
+unfoldable pub tagLine : ℕ → List ℕ
 tagLine c =
     (123 ∷ 57 ∷ 56 ∷ 65 ∷ 58 ∷ 67 ∷ 78 ∷ 84 ∷ 82 ∷ 47 ∷ (48 + c / 10000000) ∷ (48 + c / 1000000 % 10) ∷ (48 + c / 100000 % 10) ∷ (48 + c / 10000 % 10)
     ∷ (48 + c / 1000 % 10) ∷ (48 + c / 100 % 10) ∷ (48 + c / 10 % 10) ∷ (48 + c % 10) ∷ 125 ∷ [])
     ++ replicate 45 32
 
-blank : List ℕ
+unfoldable pub blank : List ℕ
 blank = replicate 64 32
 
--- a transfer by its sender, receiver, security, tracking code, par and first line
-sent : ℕ → ℕ → ℕ → ℕ → ℕ → List ℕ → List ℕ
-sent sender receiver security code par line =
-    (139 ∷ 0 ∷ 1 ∷ 0 ∷ sender ∷ receiver ∷ security ∷ 0 ∷ code ∷ (par % 256) ∷ (par / 256 % 256) ∷ (par / 65536 % 256) ∷ (par / 16777216) ∷ [])
+-- a transfer by its class, sender, receiver, security, tracking code, par and first line
+unfoldable pub sentIn : ℕ → ℕ → ℕ → ℕ → ℕ → ℕ → List ℕ → List ℕ
+sentIn class sender receiver security code par line =
+    (139 ∷ 0 ∷ 1 ∷ 0 ∷ sender ∷ receiver ∷ security ∷ class ∷ code ∷ (par % 256) ∷ (par / 256 % 256) ∷ (par / 65536 % 256) ∷ (par / 16777216) ∷ [])
     ++ (line ++ blank)
+
+-- of class 0
+unfoldable pub sent : ℕ → ℕ → ℕ → ℕ → ℕ → List ℕ → List ℕ
+sent sender receiver security code par line = sentIn 0 sender receiver security code par line
 
 -- ---- tables
 
@@ -72,13 +76,13 @@ balances =
 
 -- ---- rows
 
-record TransferRow : Type 0 where
-  tables : List ℕ
-  day : ℕ
-  message : List ℕ
-  claims : List ℕ
+pub record TransferRow : Type 0 where
+  pub tables : List ℕ
+  pub day : ℕ
+  pub message : List ℕ
+  pub claims : List ℕ
 
-abbrev row : List ℕ → ℕ → List ℕ → List ℕ → TransferRow
+abbrev pub row : List ℕ → ℕ → List ℕ → List ℕ → TransferRow
 row t d m c = record { tables = t; day = d; message = m; claims = c }
 
 -- the seven most recent of eight dates; those after the Contract Date; none with a loan code or without a tag; final, masked and
@@ -126,7 +130,7 @@ closes =
     ∷ 33 ∷ 0 ∷ 3 ∷ 0 ∷ 3 ∷ 2 ∷ 1 ∷ 2 ∷ 2 ∷ 1 ∷ 0 ∷ 0 ∷ 0 ∷ 0 ∷ 168 ∷ 97 ∷ 0 ∷ 0 ∷ 0 ∷ 0 ∷ 0 ∷ 0 ∷ 0 ∷ 0 ∷ 0 ∷ 0 ∷ 0 ∷ 0 ∷ 0 ∷ 0 ∷ 0 ∷ 0 ∷ 0 ∷ 0 ∷ 0 ∷ [])
     ∷ []
 
-sameBytes : List ℕ → List ℕ → Bool
+unfoldable pub sameBytes : List ℕ → List ℕ → Bool
 sameBytes [] [] = true
 sameBytes [] (y ∷ ys) = false
 sameBytes (x ∷ xs) [] = false
@@ -167,7 +171,7 @@ loans =
     (256 * 3 + 16 * 4 + 1) 1000000000
 
 -- a claim's fields in the record's order
-claimed : List Claim → List ℕ
+unfoldable pub claimed : List Claim → List ℕ
 claimed [] = []
 claimed (c ∷ cs) =
     c .«claim_type» ∷ c .outcome ∷ c .payer ∷ c .payee ∷ c .security ∷ c .row ∷ c .transfer ∷ c .interest .0 ∷ c .principal .0 ∷ c .release ∷ c .slot
@@ -208,11 +212,11 @@ rows-hold :
     all (λ r. sameBytes (bytesOfAll (transferClaims weekdays (r .tables) (r .day) 9 (transferOf (r .message)) (messageTag (r .message)))) (r .claims)) transfers
     && all (λ r. sameBytes (bytesOfAll (closeClaims weekdays (r .tables) (r .day) balances)) (r .claims)) closes
     && maxima ≡ true
-unfolding openedClaims tagLine blank sent sameBytes manyTables balances transfers closes maximaOf maxima
+unfolding openedClaims tagLine blank sentIn sent sameBytes manyTables balances transfers closes maximaOf maxima
 rows-hold = refl
 
 apart-rows-hold :
     all (λ r. sameBytes (claimed (transferClaims weekdays (r .tables) (r .day) 9 (transferOf (r .message)) (messageTag (r .message)))) (r .claims)) apartTransfers
     && all (λ r. sameBytes (claimed (closeClaims weekdays (r .tables) (r .day) loans)) (r .claims)) apartCloses ≡ true
-unfolding openedClaims tagLine blank sent sameBytes apartTables loans claimed apartTransfers apartCloses
+unfolding openedClaims tagLine blank sentIn sent sameBytes apartTables loans claimed apartTransfers apartCloses
 apart-rows-hold = refl

@@ -1,7 +1,7 @@
 -- A claim on a sound row fits its record: amounts by the largest par and factor, release dates by the last date, the rest by their lists.
-use mathlib.Core.Path.{_≡_}
+use mathlib.Core.Path.{_≡_, refl}
 use mathlib.Core.Bool.{Bool, true, false, cond, _&&_}
-use mathlib.Core.List.{List, [], _∷_, map}
+use mathlib.Core.List.{List, [], _∷_, map, map-append}
 use Prim.Native.Nat.{ℕ, zero, suc, _≤_, _<_}
 use native.Mathlib.Nat.{mul-le-mul}
 use native.Mathlib.Omega.{arith}
@@ -10,7 +10,7 @@ use lib.ListN.{getD}
 use borrow.Author.Tests.{ltb-true}
 use Rattle.lists.specs.Tests.{and-left, and-right}
 use Rattle.lists.specs.All.{all, all-both}
-use Rattle.lists.specs.Select.{all-select, all-last}
+use Rattle.lists.specs.Select.{select, all-select, all-last}
 use Rattle.lists.specs.Tabulate.{each, eachOf}
 use Rattle.days.specs.Days.{bitOn, lastOpen}
 use Rattle.days.proofs.OpenDays.{Kept, after-small, from-small}
@@ -20,8 +20,8 @@ use Rattle.records.specs.declared.Transfer.{Transfer}
 use Rattle.tags.specs.declared.Tag.{Tag}
 use Rattle.securities.specs.Securities.{securityOf, typeOf, Row, filledRows, goodRow}
 use Rattle.securities.proofs.Sound.{good-row, Sound}
-use Rattle.claims.specs.Amounts.{Part, ofInterest, ofPrincipal, centsOn, centsFor, factorFor, amount, outcomeOf, isLate, releaseOf, isEarly, slotOf, Parties, claimOn, failType, lendingType}
-use Rattle.claims.specs.Fails.{eligibleIn, eligible, Due, due, fails, dues, transferParties, transferClaims}
+use Rattle.claims.specs.Amounts.{Part, ofInterest, ofPrincipal, centsOn, centsFor, factorFor, amount, outcomeOf, isLate, releaseOf, isEarly, slotOf, Parties, claimOn, failType, interimType, lendingType}
+use Rattle.claims.specs.Fails.{isMbs, eligibleIn, eligible, isInterim, interimIn, interim, Due, due, fails, dues, transferParties, transferClaims}
 use Rattle.claims.specs.Close.{crossed, loanParties, loanClaim, rowClaims, closeClaims, securityBalances, lenderBalances}
 use Rattle.claims.proofs.Written.{Fits, AllFit, all-fit-append}
 
@@ -111,28 +111,50 @@ module _ (calendar tables : List ℕ) (kept : Kept calendar) where
 
   -- ---- the claims of a transfer
 
-  fit-dues : (day n : ℕ) (x : Parties) (par : ℕ) (rows : List Row) → n < 4294967296 → SmallParties x → par ≤ 9000000000
+  fit-dues : (day n : ℕ) (x : Parties) (par claimType : ℕ) (rows : List Row) → claimType < 256 → n < 4294967296 → SmallParties x → par ≤ 9000000000
       → all (rowFits (lastOpen calendar)) rows ≡ true
-      → AllFit (map (λ (d : Due). claimOn calendar tables day n x par (d .claimType) (d .row)) (map (due failType) rows))
+      → AllFit (map (λ (d : Due). claimOn calendar tables day n x par (d .claimType) (d .row)) (map (due claimType) rows))
   unfolding all
-  fit-dues day n x par [] b r c d = tt
-  fit-dues day n x par (row ∷ rows) b r c d = (
-    fit-claim day n x par failType row (omega arith) b r c (and-left _ _ d),
-    fit-dues day n x par rows b r c (and-right (rowFits (lastOpen calendar) row) _ d),
+  fit-dues day n x par claimType [] a b r c d = tt
+  fit-dues day n x par claimType (row ∷ rows) a b r c d = (
+    fit-claim day n x par claimType row a b r c (and-left _ _ d),
+    fit-dues day n x par claimType rows a b r c (and-right (rowFits (lastOpen calendar) row) _ d),
   )
+
+  -- rows selected from sound ones fit
+  fit-eligible : (day : ℕ) (t : Transfer) (tag : Tag) → Sound (lastOpen calendar) (filledRows tables (t .security))
+      → all (rowFits (lastOpen calendar)) (eligible tables day t tag) ≡ true
+  unfolding eligible eligibleIn
+  fit-eligible day t tag s =
+      all-select _ _ _ (all-last _ _ _ (all-select _ _ _ (sound-fit (lastOpen calendar) (filledRows tables (t .security)) s)))
+
+  fit-interim : (day : ℕ) (t : Transfer) → Sound (lastOpen calendar) (filledRows tables (t .security))
+      → all (rowFits (lastOpen calendar)) (interim tables day t) ≡ true
+  unfolding interim interimIn
+  fit-interim day t s = go (isMbs (typeOf (securityOf tables (t .security))))
+    where
+      go : (b : Bool) → all (rowFits (lastOpen calendar)) (cond b (select (isInterim day) (filledRows tables (t .security))) []) ≡ true
+      go true = all-select _ _ _ (sound-fit (lastOpen calendar) (filledRows tables (t .security)) s)
+      go false = unfold all in refl
 
   pub fit-transfer : (day n : ℕ) (t : Transfer) (tag : Tag) → n < 4294967296 → SmallParties (transferParties t) → t .par ≤ 9000000000
       → Sound (lastOpen calendar) (filledRows tables (t .security)) → AllFit (transferClaims calendar tables day n t tag)
-  unfolding transferClaims dues eligible eligibleIn
-  fit-transfer day n t tag b r c s = go (fails t tag)
+  unfolding transferClaims dues
+  fit-transfer day n t tag b r c s =
+      let failed = cond (fails t tag) (map (due failType) (eligible tables day t tag)) [] in
+      let between = cond (eqb (t .code) 0) (map (due interimType) (interim tables day t)) [] in
+      rw (map-append claim failed between)
+      (all-fit-append (map claim failed) (map claim between)
+      (go (fails t tag) failType (eligible tables day t tag) (omega arith) (fit-eligible day t tag s))
+      (go (eqb (t .code) 0) interimType (interim tables day t) (omega arith) (fit-interim day t s)))
     where
-      go : (f : Bool)
-          → AllFit (map (λ (d : Due). claimOn calendar tables day n (transferParties t) (t .par) (d .claimType) (d .row))
-          (cond f (map (due failType) (eligible tables day t tag)) []))
-      go true =
-          fit-dues day n (transferParties t) (t .par) (eligible tables day t tag) b r c
-          (all-select _ _ _ (all-last _ _ _ (all-select _ _ _ (sound-fit (lastOpen calendar) (filledRows tables (t .security)) s))))
-      go false = tt
+      claim : Due → Claim
+      claim d = claimOn calendar tables day n (transferParties t) (t .par) (d .claimType) (d .row)
+
+      go : (f : Bool) (claimType : ℕ) (rows : List Row) → claimType < 256 → all (rowFits (lastOpen calendar)) rows ≡ true
+          → AllFit (map claim (cond f (map (due claimType) rows) []))
+      go true claimType rows a d = fit-dues day n (transferParties t) (t .par) claimType rows a b r c d
+      go false claimType rows a d = tt
 
   -- ---- the claims of a close
 

@@ -15,7 +15,7 @@ use Rattle.lists.specs.Fields.{part, part-take}
 use Rattle.lists.specs.Select.{all-drop}
 use Rattle.days.specs.Days.{lastOpen}
 use Rattle.securities.specs.Securities.{securityOf, typeOf, frequencyOf, Row, rowOf, rowsFrom, rowsOf, isEmpty, goodRows, goodSecurity, goodTables}
-use Rattle.claims.specs.Reached.{rowAt}
+use Rattle.claims.specs.Reached.{rowAt, dateAt}
 
 -- ---- a row in its place
 
@@ -56,10 +56,19 @@ pub length-rows-of : (tables : List ℕ) (s : ℕ) → length (rowsOf (securityO
 unfolding rowsOf
 length-rows-of tables s = rows-length 16 0 (drop 2 (securityOf tables s))
 
-pub beneficiary-word : (tables : List ℕ) (s i : ℕ) → getD tables (114 * s + 2 + 7 * i + 1) 0 ≡ rowAt tables s i .beneficiaryDate
-unfolding rowAt rowOf
-beneficiary-word tables s i =
-    sym (getD-take 7 (drop (114 * s + 2 + 7 * i) tables) 1 0 (omega arith) ∙ getD-drop (114 * s + 2 + 7 * i) tables 1 0)
+-- either date of a row, in its word
+pub date-word : (tables : List ℕ) (s i column : ℕ) → column < 2 → getD tables (114 * s + 2 + 7 * i + column) 0 ≡ dateAt column (rowAt tables s i)
+unfolding rowAt rowOf dateAt
+date-word tables s i column h =
+    sym (getD-take 7 (drop (114 * s + 2 + 7 * i) tables) column 0 (omega arith) ∙ getD-drop (114 * s + 2 + 7 * i) tables column 0) ∙ go column h
+  where
+    words : List ℕ
+    words = part (114 * s + 2 + 7 * i) 7 tables
+
+    go : (column : ℕ) → column < 2 → getD words column 0 ≡ dateAt column (rowOf i words)
+    go zero h = refl
+    go (suc zero) h = refl
+    go (suc (suc column)) h = absurd (omega arith)
 
 -- ---- unused securities
 

@@ -33,9 +33,12 @@ amount part par row = centsFor part par (factorFor part row)
 
 -- ---- claim types and outcomes
 
--- Claim types: 1 fail, 3 lending.
+-- Claim types: 1 fail, 2 interim, 3 lending.
 abbrev pub failType : ℕ
 failType = 1
+
+abbrev pub interimType : ℕ
+interimType = 2
 
 abbrev pub lendingType : ℕ
 lendingType = 3
@@ -49,9 +52,9 @@ outcomeOf claimType payer row interest principal =
 
 -- ---- release
 
--- A fail claim with Payment Date on or before the day.
+-- A fail or interim claim with Payment Date on or before the day.
 unfoldable pub isLate : ℕ → ℕ → Row → Bool
-isLate claimType day row = eqb claimType failType && leb (row .paymentDate) day
+isLate claimType day row = leb claimType interimType && leb (row .paymentDate) day
 
 -- A late claim goes on the first open day after the day, any other on the first open day on or after its Payment Date; outcomes 1
 -- to 3 are notices and have release date 0.

@@ -1,6 +1,7 @@
--- Document 01, section Fail claims: the rows that a transfer claims. S is the book's day, C the Contract Date.
+-- Document 01, section Fail claims, and document 02, card 1, interim claims: the rows that a transfer claims. S is the book's day, C
+-- the Contract Date.
 use mathlib.Core.Bool.{Bool, cond, _&&_}
-use mathlib.Core.List.{List, [], _∷_, map}
+use mathlib.Core.List.{List, [], _∷_, _++_, map}
 use Prim.Native.Nat.{ℕ}
 use lib.Dec.{eqb, ltb, leb}
 use lib.ListN.{getD}
@@ -11,7 +12,7 @@ use Rattle.records.specs.MessageRecords.{firstLine, secondLine}
 use Rattle.securities.specs.Securities.{securityOf, typeOf, frequencyOf, Row, filledRows}
 use Rattle.tags.specs.declared.Tag.{Tag}
 use Rattle.tags.specs.ContractDateTag.{tagOf, tagged, contractDate}
-use Rattle.claims.specs.Amounts.{failType, Parties, claimOn}
+use Rattle.claims.specs.Amounts.{failType, interimType, Parties, claimOn}
 
 -- The tag of a transfer message: that of its two free text lines.
 unfoldable pub messageTag : List ℕ → Tag
@@ -23,9 +24,13 @@ messageTag m = tagOf (firstLine m) (secondLine m)
 unfoldable pub maximumNumbers : List ℕ
 maximumNumbers = 7 ∷ 6 ∷ 3 ∷ 2 ∷ 1 ∷ []
 
--- The maximum number for a type and a frequency: types 3 and 4 are MBS.
+-- Types 3 and 4 are MBS.
+unfoldable pub isMbs : ℕ → Bool
+isMbs type = leb 3 type
+
+-- The maximum number for a type and a frequency.
 unfoldable pub maximumFor : List ℕ → ℕ → ℕ → ℕ
-maximumFor numbers type frequency = cond (leb 3 type) (getD numbers 0 0) (getD numbers frequency 0)
+maximumFor numbers type frequency = cond (isMbs type) (getD numbers 0 0) (getD numbers frequency 0)
 
 -- Of the rows with Beneficiary Date on or before the day, the most recent up to a maximum number; of these, each with a Beneficiary
 -- Date after the Contract Date, in table order.
@@ -38,6 +43,20 @@ unfoldable pub eligible : List ℕ → ℕ → Transfer → Tag → List Row
 eligible tables day t tag =
     let words = securityOf tables (t .security) in
     eligibleIn (maximumFor maximumNumbers (typeOf words) (frequencyOf words)) (contractDate tag) day (filledRows tables (t .security))
+
+-- ---- interim rows
+
+-- The day is on or after the Record Date and before the Beneficiary Date.
+unfoldable pub isInterim : ℕ → Row → Bool
+isInterim day row = leb (row .recordDate) day && ltb day (row .beneficiaryDate)
+
+-- Of a security of type 3 or 4, every such row, in table order.
+unfoldable pub interimIn : ℕ → ℕ → List Row → List Row
+interimIn type day rows = cond (isMbs type) (select (isInterim day) rows) []
+
+-- The interim rows of a transfer's security; a tag has no part in them.
+unfoldable pub interim : List ℕ → ℕ → Transfer → List Row
+interim tables day t = interimIn (typeOf (securityOf tables (t .security))) day (filledRows tables (t .security))
 
 -- ---- the claims of a transfer
 
@@ -53,9 +72,12 @@ due claimType row = record { claimType = claimType; row = row }
 unfoldable pub fails : Transfer → Tag → Bool
 fails t tag = eqb (t .code) 0 && tagged tag
 
--- What a transfer claims, in table order.
+-- What a transfer claims: failed, its eligible rows; with tracking code 0, tag or no tag, its interim rows behind them. This is table
+-- order, since a Beneficiary Date on or before the day stands before those after it.
 unfoldable pub dues : List ℕ → ℕ → Transfer → Tag → List Due
-dues tables day t tag = cond (fails t tag) (map (due failType) (eligible tables day t tag)) []
+dues tables day t tag =
+    cond (fails t tag) (map (due failType) (eligible tables day t tag)) []
+    ++ cond (eqb (t .code) 0) (map (due interimType) (interim tables day t)) []
 
 -- Payer is the sender, payee the receiver.
 unfoldable pub transferParties : Transfer → Parties

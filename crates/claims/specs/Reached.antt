@@ -1,17 +1,15 @@
--- The rows of a security in their places in the tables, those that a day has reached, and the claim of a failed transfer on one row.
--- Contracts of private functions cite these; the laws of proofs/Reached tie them to the sections' definitions.
+-- The rows of a security in their places in the tables, and those that a day has reached by either date. Contracts of private functions
+-- cite these; the laws of proofs/Reached tie them to the sections' definitions.
 use mathlib.Core.Path.{_≡_}
 use mathlib.Core.Bool.{Bool, cond, _&&_}
 use mathlib.Core.List.{List, [], _∷_}
-use Prim.Native.Nat.{ℕ, suc, _+_, _*_, _≤_, _<_}
+use Prim.Native.Nat.{ℕ, zero, suc, _+_, _*_, _≤_, _<_}
 use lib.Dec.{ltb, leb}
 use lib.ListN.{length}
 use Rattle.lists.specs.Fields.{part}
-use Rattle.records.specs.declared.Claim.{Claim}
 use Rattle.records.specs.declared.Transfer.{Transfer}
-use Rattle.securities.specs.Securities.{securityOf, Row, rowOf, rowsOf}
-use Rattle.claims.specs.Amounts.{failType, claimOn}
-use Rattle.claims.specs.Fails.{transferParties}
+use Rattle.securities.specs.Securities.{securityOf, typeOf, Row, rowOf, rowsOf}
+use Rattle.claims.specs.Fails.{isMbs}
 
 -- ---- rows
 
@@ -24,23 +22,30 @@ unfoldable pub leading : {A : Type 0} → (A → Bool) → List A → ℕ
 leading p [] = 0
 leading p (x ∷ xs) = cond (p x) (suc (leading p xs)) 0
 
--- A row with a Beneficiary Date on or before the day.
-unfoldable pub isReached : ℕ → Row → Bool
-isReached day row = ltb 0 (row .beneficiaryDate) && leb (row .beneficiaryDate) day
+-- The Record Date of a row, its word 0, or the Beneficiary Date, its word 1.
+unfoldable pub dateAt : ℕ → Row → ℕ
+dateAt zero row = row .recordDate
+dateAt (suc column) row = row .beneficiaryDate
 
--- How many rows of a security, from the first on, the day has reached.
-unfoldable pub reachedRows : List ℕ → ℕ → ℕ → ℕ
-reachedRows tables s day = leading (isReached day) (rowsOf (securityOf tables s))
+-- A row with that date on or before the day.
+unfoldable pub isReached : ℕ → ℕ → Row → Bool
+isReached column day row = ltb 0 (dateAt column row) && leb (dateAt column row) day
 
--- ---- the claim on a row
+-- How many rows of a security, from the first on, the day has reached by that date.
+unfoldable pub reachedRows : ℕ → List ℕ → ℕ → ℕ → ℕ
+reachedRows column tables s day = leading (isReached column day) (rowsOf (securityOf tables s))
 
--- The claim of a failed transfer on a row; none where its Beneficiary Date is not after the Contract Date.
-unfoldable pub failClaim : List ℕ → List ℕ → ℕ → ℕ → Transfer → ℕ → Row → List Claim
-failClaim calendar tables day number t contract row =
-    cond (ltb contract (row .beneficiaryDate)) (claimOn calendar tables day number (transferParties t) (t .par) failType row ∷ []) []
+-- The row behind the interim rows, which begin at the first row whose Beneficiary Date the day has not reached.
+unfoldable pub interimEnd : List ℕ → ℕ → ℕ → ℕ
+interimEnd tables s day =
+    let reached = reachedRows 1 tables s day in
+    let recorded = reachedRows 0 tables s day in
+    cond (isMbs (typeOf (securityOf tables s)) && ltb reached recorded) recorded reached
+
+-- ---- claims on rows
 
 -- What claims on the first n rows of a transfer's security ask: words of their lengths, a security and a sender of the book, and factors in range.
-pub record Failing (calendar tables : List ℕ) (t : Transfer) (n : ℕ) : Type 0 where
+pub record Claiming (calendar tables : List ℕ) (t : Transfer) (n : ℕ) : Type 0 where
   pub months : length calendar ≡ 480
   pub words : length tables ≡ 1824
   pub held : t .security < 16

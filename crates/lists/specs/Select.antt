@@ -1,8 +1,8 @@
 -- The elements that pass a test, the last elements of a list, and lists whose keys rise.
 use mathlib.Core.Path.{_≡_, refl, ap}
-use mathlib.Core.Bool.{Bool, true, false, cond, _&&_}
-use mathlib.Core.List.{List, [], _∷_}
-use Prim.Native.Nat.{ℕ, zero, suc, _-_}
+use mathlib.Core.Bool.{Bool, true, false, cond, _&&_, _||_}
+use mathlib.Core.List.{List, [], _∷_, _++_}
+use Prim.Native.Nat.{ℕ, zero, suc, _-_, _≤_, _<_}
 use native.Mathlib.Omega.{arith}
 use lib.Dec.{ltb}
 use lib.ListN.{length, drop}
@@ -43,6 +43,12 @@ module _ {A : Type 0} where
   select-agree f g q [] t h = refl
   select-agree f g q (x ∷ xs) t h =
       rw (h x (and-left (q x) (all q xs) t), select-agree f g q xs (and-right (q x) (all q xs) t) h)
+
+  pub select-none : (f q : A → Bool) (xs : List A) → all q xs ≡ true → ((x : A) → q x ≡ true → f x ≡ false) → select f xs ≡ []
+  unfolding all select
+  select-none f q [] t h = refl
+  select-none f q (x ∷ xs) t h =
+      rw (h x (and-left (q x) (all q xs) t)) (select-none f q xs (and-right (q x) (all q xs) t) h)
 
   -- two tests one after the other are one
   pub select-both : (f g : A → Bool) (xs : List A) → select f (select g xs) ≡ select (λ x. f x && g x) xs
@@ -110,3 +116,31 @@ module _ {A : Type 0} where
       go : (b : Bool) → rising key (select p xs) ≡ true → rising key (cond b (x ∷ select p xs) (select p xs)) ≡ true
       go true ih = and-both (all-select _ p xs (and-left (all (λ y. ltb (key x) (key y)) xs) (rising key xs) t)) ih
       go false ih = ih
+
+  -- where keys rise, the elements of a test that holds up to n come before those of a test that holds above n
+  pub select-halves : (key : A → ℕ) (n : ℕ) (f g : A → Bool) (xs : List A) → rising key xs ≡ true → ((x : A) → f x ≡ true → key x ≤ n)
+      → ((x : A) → g x ≡ true → n < key x) → select f xs ++ select g xs ≡ select (λ x. f x || g x) xs
+  unfolding rising select
+  select-halves key n f g [] t h k = refl
+  select-halves key n f g (x ∷ xs) t h k =
+      go (f x) (g x) refl refl (select-halves key n f g xs (and-right (all (λ y. ltb (key x) (key y)) xs) (rising key xs) t) h k)
+    where
+      both : List A
+      both = select (λ x. f x || g x) xs
+
+      -- behind a key above n the first test holds nowhere
+      later : n < key x → (y : A) → ltb (key x) (key y) ≡ true → f y ≡ false
+      later l y e = no (f y) refl
+        where
+          no : (b : Bool) → f y ≡ b → b ≡ false
+          no true q = absurd (omega (arith, h y q, ltb-true (key x) (key y) e))
+          no false q = refl
+
+      go : (a b : Bool) → f x ≡ a → g x ≡ b → select f xs ++ select g xs ≡ both
+          → cond a (x ∷ select f xs) (select f xs) ++ cond b (x ∷ select g xs) (select g xs) ≡ cond (a || b) (x ∷ both) both
+      go true true p q ih = absurd (omega (arith, h x p, k x q))
+      go true false p q ih = ap (_∷_ x) ih
+      go false true p q ih =
+          let none : select f xs ≡ [] = select-none f _ xs (and-left (all (λ y. ltb (key x) (key y)) xs) (rising key xs) t) (later (k x q)) in
+          rw none (ap (_∷_ x) (rw none at ih))
+      go false false p q ih = ih
