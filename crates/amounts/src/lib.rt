@@ -19,6 +19,9 @@ use records::Dollars;
 // The type of a fail claim.
 pub const FAIL: u8 = 1;
 
+// The type of an interim claim.
+pub const INTERIM: u8 = 2;
+
 // The type of a lending claim.
 pub const LENDING: u8 = 3;
 
@@ -90,11 +93,11 @@ fn number_of(day: Day) -> u32
     }
 }
 
-// Whether a claim is a fail claim with Payment Date on or before the day.
+// Whether a claim is a fail or interim claim with Payment Date on or before the day.
 fn is_late(claim_type: u8, day: u32, payment_date: u32) -> bool
-    ensures { λ r. ⌜ r ≡ (eqb «claim_type» 1 && leb «payment_date» day) ⌝ }
+    ensures { λ r. ⌜ r ≡ (leb «claim_type» 2 && leb «payment_date» day) ⌝ }
 {
-    if claim_type != FAIL {
+    if INTERIM < claim_type {
         return false;
     }
     payment_date <= day

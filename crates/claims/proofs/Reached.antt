@@ -9,7 +9,7 @@ use native.Mathlib.Nat.{not-suc-le-zero, le-of-suc-le-suc, sub-zero}
 use native.Mathlib.Omega.{arith}
 use lib.Dec.{eqb, ltb, leb}
 use lib.ListN.{length, take, drop, getD, length-drop, length-map, length-append}
-use lib.Seq.{getD-drop, length-take-le}
+use lib.Seq.{length-take-le}
 use borrow.Author.Tests.{ltb-true, ltb-false, leb-true, leb-false, eqb-true, lt-ltb, le-ltb, lt-leb, eq-eqb, ne-eqb}
 use Rattle.lists.specs.Tests.{and-left, and-right}
 use Rattle.lists.specs.All.{all}
@@ -34,7 +34,7 @@ and-true : (b : Bool) → b && true ≡ b
 and-true true = refl
 and-true false = refl
 
-and-false : (b : Bool) → b && false ≡ false
+pub and-false : (b : Bool) → b && false ≡ false
 and-false true = refl
 and-false false = refl
 
@@ -273,20 +273,12 @@ module _ (calendar tables : List ℕ) (day number : ℕ) (t : Transfer) where
 -- ---- the rows of a transfer's security
 
 module _ (calendar tables : List ℕ) (day : ℕ) (t : Transfer) where
-  unfoldable pub rows : List Row
+  abbrev rows : List Row
   rows = rowsOf (securityOf tables (t .security))
 
-  pub length-rows : length rows ≡ 16
-  unfolding rows
-  length-rows = length-rows-of tables (t .security)
-
-  pub row-behind : (k j : ℕ) (d : Row) → k + j < 16 → getD (drop k rows) j d ≡ rowAt tables (t .security) (k + j)
-  unfolding rows
-  row-behind k j d h = getD-drop k rows j d ∙ rows-of-at tables (t .security) (k + j) d h
-
   few-reached : (column : ℕ) → reachedRows column tables (t .security) day ≤ 16
-  unfolding reachedRows rows
-  few-reached column = omega (arith, leading-within (isReached column day) rows, length-rows)
+  unfolding reachedRows
+  few-reached column = omega (arith, leading-within (isReached column day) rows, length-rows-of tables (t .security))
 
   abbrev reachedBy : ℕ → ℕ
   reachedBy column = reachedRows column tables (t .security) day
@@ -348,7 +340,7 @@ module _ (calendar tables : List ℕ) (day : ℕ) (t : Transfer) where
     last-reached : (maximum : ℕ)
         → lastOf maximum (select (λ row. leb (row .beneficiaryDate) day) (filledRows tables (t .security)))
         ≡ take (reachedBy 1 - (reachedBy 1 - maximum)) (drop (reachedBy 1 - maximum) rows)
-    unfolding lastOf filledRows reachedRows rows dated dateAt
+    unfolding lastOf filledRows reachedRows dated dateAt
     last-reached maximum =
         let first : select (λ row. leb (row .beneficiaryDate) day) (filledRows tables (t .security)) ≡ take (reachedBy 1) rows
         = dated-leading (lastOpen calendar) day 1 0 0 rows (good-rows calendar tables (t .security) sound held) in
@@ -362,7 +354,7 @@ module _ (calendar tables : List ℕ) (day : ℕ) (t : Transfer) where
     eligible-window tag = ap (select (λ row. ltb (contractDate tag) (row .beneficiaryDate))) (last-reached _)
 
     between-window : select (isInterim day) (filledRows tables (t .security)) ≡ take (reachedBy 0 - reachedBy 1) (drop (reachedBy 1) rows)
-    unfolding filledRows reachedRows rows between
+    unfolding filledRows reachedRows between
     between-window = interim-rows (lastOpen calendar) day 0 0 rows (good-rows calendar tables (t .security) sound held)
 
     pub interim-window : interim tables day t ≡ take (interimEnd tables (t .security) day - reachedBy 1) (drop (reachedBy 1) rows)

@@ -1,6 +1,6 @@
 -- The loops over a security's rows: counting those that the day has reached, and the pass over the claims of the rows from a first one on.
 use mathlib.Core.Path.{_≡_, refl, sym, ap, _∙_, subst}
-use mathlib.Core.Bool.{Bool, cond}
+use mathlib.Core.Bool.{Bool, true, false, cond}
 use mathlib.Core.List.{List, [], _∷_}
 use Prim.Native.Nat.{ℕ, suc, _+_, _-_, _*_, _≤_, _<_}
 use native.Mathlib.Nat.{zero-add, add-zero}
@@ -12,10 +12,12 @@ use borrow.Author.Tests.{lt-ltb, le-ltb, le-leb, lt-leb}
 use Rattle.lists.specs.Tabulate.{each}
 use Rattle.records.specs.declared.Claim.{Claim}
 use Rattle.records.specs.declared.Transfer.{Transfer}
-use Rattle.securities.specs.Securities.{securityOf, Row, rowOf, rowsOf}
+use Rattle.securities.specs.Securities.{securityOf, typeOf, Row, rowOf, rowsOf}
+use Rattle.claims.specs.Fails.{isMbs}
 use Rattle.claims.specs.Claimable.{Claimable}
 use Rattle.claims.specs.Passes.{Free, Passed, pass-start, pass-more, pass-now, pass-end}
-use Rattle.claims.specs.Reached.{rowAt, leading, dateAt, isReached, reachedRows, Claiming}
+use Rattle.claims.specs.Reached.{rowAt, leading, dateAt, isReached, reachedRows, interimEnd, Claiming}
+use Rattle.claims.proofs.Reached.{and-false}
 use Rattle.claims.proofs.TableRows.{rows-of-at, date-word, length-rows-of}
 
 -- ---- the rows that the day has reached
@@ -68,6 +70,22 @@ unfolding leading
 reach-end {column} {tables} {s} {day} {i} k h =
     let none : drop i (rowsOf (securityOf tables s)) ≡ [] = drop-of-length-le _ {i = i} (omega (arith, length-rows-of tables s)) in
     sym (k .rest ∙ rw none (add-zero i))
+
+-- ---- the end of the interim rows
+
+module _ (tables : List ℕ) (s day : ℕ) {n : ℕ} (e : n ≡ reachedRows 1 tables s day) where
+  pub end-other : isMbs (typeOf (securityOf tables s)) ≡ false → n ≡ interimEnd tables s day
+  unfolding interimEnd
+  end-other q = rw q e
+
+  module _ {m : ℕ} (o : m ≡ reachedRows 0 tables s day) where
+    pub end-none : m ≤ n → n ≡ interimEnd tables s day
+    unfolding interimEnd
+    end-none h = rw (← o, ← e, le-ltb n m h, and-false (isMbs (typeOf (securityOf tables s))))
+
+    pub end-some : isMbs (typeOf (securityOf tables s)) ≡ true → n < m → m ≡ interimEnd tables s day
+    unfolding interimEnd
+    end-some q h = rw (← o, ← e, q, lt-ltb n m h)
 
 -- ---- a pass over rows
 

@@ -23,6 +23,11 @@ select-each p f (x ∷ xs) = go (p x) (select-each p f xs)
     go true ih = ap (_∷_ (f x)) ih
     go false ih = ih
 
+pub map-each : {A B : Type 0} (f : A → B) (xs : List A) → map f xs ≡ eachOf xs (λ x. f x ∷ [])
+unfolding eachOf
+map-each f [] = refl
+map-each f (x ∷ xs) = ap (_∷_ (f x)) (map-each f xs)
+
 module _ {A B : Type 0} (f : A → List B) where
   each-of-append : (xs ys : List A) → eachOf (xs ++ ys) f ≡ eachOf xs f ++ eachOf ys f
   unfolding eachOf

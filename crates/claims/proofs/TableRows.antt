@@ -56,6 +56,10 @@ pub length-rows-of : (tables : List ℕ) (s : ℕ) → length (rowsOf (securityO
 unfolding rowsOf
 length-rows-of tables s = rows-length 16 0 (drop 2 (securityOf tables s))
 
+-- the rows behind the first k
+pub row-behind : (tables : List ℕ) (s k j : ℕ) (d : Row) → k + j < 16 → getD (drop k (rowsOf (securityOf tables s))) j d ≡ rowAt tables s (k + j)
+row-behind tables s k j d h = getD-drop k (rowsOf (securityOf tables s)) j d ∙ rows-of-at tables s (k + j) d h
+
 -- either date of a row, in its word
 pub date-word : (tables : List ℕ) (s i column : ℕ) → column < 2 → getD tables (114 * s + 2 + 7 * i + column) 0 ≡ dateAt column (rowAt tables s i)
 unfolding rowAt rowOf dateAt

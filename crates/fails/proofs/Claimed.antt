@@ -1,93 +1,122 @@
--- The claims on the recent rows of a transfer are its claims, and what these ask is there.
-use mathlib.Core.Path.{_≡_, refl, sym, _∙_, subst}
-use mathlib.Core.Bool.{Bool, true, false, cond, _&&_}
-use mathlib.Core.Logic.{_⊎_, inl, inr, ⊎-elim}
-use mathlib.Core.List.{List, []}
-use Prim.Native.Nat.{ℕ, _+_, _-_, _<_}
+-- The claims on the rows of a transfer are its claims, and what these ask is there.
+use mathlib.Core.Path.{_≡_, refl, sym, ap, ap₂, _∙_, subst}
+use mathlib.Core.Bool.{Bool, true, false, cond}
+use mathlib.Core.List.{List, [], _++_, map}
+use Prim.Native.Nat.{ℕ, _+_, _-_, _≤_, _<_}
 use native.Mathlib.Omega.{arith}
-use lib.Dec.{eqb}
-use lib.ListN.{length}
+use lib.Dec.{eqb, ltb}
+use lib.ListN.{length, take, drop}
 use borrow.Author.Tests.{eqb-true, eqb-false, eq-eqb, ne-eqb}
+use Rattle.lists.specs.Select.{select}
 use Rattle.lists.specs.Tabulate.{each}
+use Rattle.records.specs.declared.Claim.{Claim}
 use Rattle.records.specs.declared.Transfer.{Transfer}
-use Rattle.securities.specs.Securities.{securityOf, typeOf, frequencyOf, goodTables}
+use Rattle.securities.specs.Securities.{securityOf, typeOf, frequencyOf, Row, rowsOf, goodTables}
 use Rattle.tags.specs.declared.Tag.{Tag}
 use Rattle.days.specs.declared.Date.{Date}
-use Rattle.tags.specs.declared.Tag.the-variants.{Absent, Several, Unended, NotDate, On}
+use Rattle.tags.specs.declared.Tag.the-variants.{On}
 use Rattle.tags.specs.ContractDateTag.{tagged, contractDate}
-use Rattle.claims.specs.Fails.{maximumNumbers, maximumFor, fails, transferClaims}
-use Rattle.claims.specs.Reached.{reachedRows, Failing}
-use Rattle.claims.proofs.Reached.{none-by-code, none-untagged, failing, fail-each}
-use Rattle.claims.proofs.RowLoops.{failing-below}
+use Rattle.claims.specs.Amounts.{failType, interimType}
+use Rattle.claims.specs.Fails.{maximumNumbers, maximumFor, eligible, transferClaims}
+use Rattle.claims.specs.Reached.{reachedRows, interimEnd, Claiming}
+use Rattle.claims.proofs.Reached.{claimed, none-by-code, claims-by-rows, reached-end, claiming, eligible-window, interim-window}
+use Rattle.claims.proofs.RowLoops.{claiming-below}
 use Rattle.fails.specs.declared.Recent.{Recent}
-use Rattle.fails.specs.Recent.{noRows, recentRows, recentClaims}
+use Rattle.fails.specs.Recent.{noRows, firstRow, recentRows, recentClaims}
+use Rattle.fails.proofs.Due.{due-each}
 
--- ---- the cases
+-- ---- the cases of the code
 
 module _ (tables : List ℕ) (day : ℕ) (t : Transfer) (tag : Tag) where
   pub rows-by-code : (t .code ≡ 0 → ⊥) → noRows ≡ recentRows tables day t tag
-  unfolding recentRows fails
+  unfolding recentRows
   rows-by-code h = rw (ne-eqb (t .code) 0 h) refl
 
-  pub rows-untagged : tagged tag ≡ false → noRows ≡ recentRows tables day t tag
-  unfolding recentRows fails
-  rows-untagged h = rw h (go (eqb (t .code) 0) _)
-    where
-      go : (b : Bool) (r : Recent) → noRows ≡ cond (b && false) r noRows
-      go true r = refl
-      go false r = refl
+  module _ {n k : ℕ} (z : t .code ≡ 0) (e : n ≡ reachedRows 1 tables (t .security) day) (q : k ≡ interimEnd tables (t .security) day) where
+    pub rows-untagged : tagged tag ≡ false → contractDate tag ≡ 0
+        → _≡_ {A = Recent} (record { after = 0; first = n; reached = n; end = k }) (recentRows tables day t tag)
+    unfolding recentRows firstRow
+    rows-untagged u d = rw (eq-eqb (t .code) 0 z, u, d, e, q) refl
 
-  pub rows-tagged : {date : Date} {n m k : ℕ} → tag ≡ On date → t .code ≡ 0 → n ≡ reachedRows tables (t .security) day
-      → m ≡ maximumFor maximumNumbers (typeOf (securityOf tables (t .security))) (frequencyOf (securityOf tables (t .security))) → k ≡ n - m
-      → _≡_ {A = Recent} (record { contract = date .0; first = k; count = n - k }) (recentRows tables day t tag)
-  unfolding recentRows fails tagged contractDate
-  rows-tagged g z e o q = rw (g, eq-eqb (t .code) 0 z, q, e, o) refl
+    pub rows-tagged : {date : Date} {m first : ℕ} → tag ≡ On date
+        → m ≡ maximumFor maximumNumbers (typeOf (securityOf tables (t .security))) (frequencyOf (securityOf tables (t .security))) → first ≡ n - m
+        → _≡_ {A = Recent} (record { after = date .0; first = first; reached = n; end = k }) (recentRows tables day t tag)
+    unfolding recentRows firstRow tagged contractDate
+    rows-tagged g o p = rw (g, eq-eqb (t .code) 0 z, p, e, q, o) refl
 
 -- ---- the claims
-
--- a tag that is a date, or none
-dated : (tag : Tag) → ((d : Date) × (tag ≡ On d)) ⊎ (tagged tag ≡ false)
-unfolding tagged
-dated Absent = inr refl
-dated Several = inr refl
-dated Unended = inr refl
-dated NotDate = inr refl
-dated (On d) = inl (d, refl)
 
 -- What rows say of a transfer where its claims are on them: these ask no more than is there.
 pub record Recently (calendar tables : List ℕ) (day number : ℕ) (t : Transfer) (tag : Tag) (rows : Recent) : Type 0 where
   pub claims : transferClaims calendar tables day number t tag ≡ recentClaims calendar tables day number t rows
-  pub asks : length calendar ≡ 480 → length tables ≡ 1824 → t .sender < 16 → Failing calendar tables t (rows .first + rows .count)
+  pub order : rows .first ≤ rows .end
+  pub asks : length calendar ≡ 480 → length tables ≡ 1824 → t .sender < 16 → Claiming calendar tables t (rows .end)
 
 module _ (calendar tables : List ℕ) (day number : ℕ) (t : Transfer) (sound : goodTables calendar tables ≡ true) (held : t .security < 16) where
-  none : recentClaims calendar tables day number t noRows ≡ []
-  unfolding recentClaims noRows each
-  none = refl
-
-  not-failed : {tag : Tag} → transferClaims calendar tables day number t tag ≡ [] → noRows ≡ recentRows tables day t tag
-      → Recently calendar tables day number t tag (recentRows tables day t tag)
-  unfolding noRows
-  not-failed {tag} e q =
-      subst (Recently calendar tables day number t tag) q
+  other-code : (tag : Tag) → (t .code ≡ 0 → ⊥) → Recently calendar tables day number t tag noRows
+  unfolding noRows recentClaims each
+  other-code tag h =
       record {
-        claims = e ∙ sym none;
-        asks = λ c l p. failing-below (omega arith) (failing calendar tables day number t sound held refl c l p);
+        claims = none-by-code calendar tables day number t tag h;
+        order = omega arith;
+        asks = λ c l p. claiming-below (omega arith) (claiming calendar tables day t sound held c l p);
       }
 
-  failed : {tag : Tag} {date : Date} → tag ≡ On date → t .code ≡ 0 → Recently calendar tables day number t tag (recentRows tables day t tag)
-  unfolding recentClaims
-  failed {tag} g z =
-      subst (Recently calendar tables day number t tag) (rows-tagged tables day t tag g z refl refl refl)
-      record {
-        claims = fail-each calendar tables day number t sound held g z refl refl refl;
-        asks = λ c l p. failing-below (omega arith) (failing calendar tables day number t sound held refl c l p);
-      }
+  module _ (tag : Tag) where
+    abbrev rows : List Row
+    rows = rowsOf (securityOf tables (t .security))
 
-  pub recently : (tag : Tag) → Recently calendar tables day number t tag (recentRows tables day t tag)
-  recently tag = go (eqb (t .code) 0) refl (dated tag)
-    where
-      go : (b : Bool) → eqb (t .code) 0 ≡ b → ((d : Date) × (tag ≡ On d)) ⊎ (tagged tag ≡ false) → Recently calendar tables day number t tag (recentRows tables day t tag)
-      go false e d = not-failed (none-by-code calendar tables day number t tag (eqb-false (t .code) 0 e)) (rows-by-code tables day t tag (eqb-false (t .code) 0 e))
-      go true e d =
-          ⊎-elim (λ p. failed (p .1) (eqb-true (t .code) 0 e))
-          (λ u. not-failed (none-untagged calendar tables day number t tag u) (rows-untagged tables day t tag u)) d
+    abbrev reached : ℕ
+    reached = reachedRows 1 tables (t .security) day
+
+    abbrev first : ℕ
+    first = firstRow tables day t tag
+
+    abbrev claim : ℕ → Row → Claim
+    claim = claimed calendar tables day number t
+
+    first-reached : first ≤ reached
+    unfolding firstRow
+    first-reached = go (tagged tag)
+      where
+        go : (b : Bool) → cond b (reached - maximumFor maximumNumbers (typeOf (securityOf tables (t .security))) (frequencyOf (securityOf tables (t .security)))) reached ≤ reached
+        go true = omega arith
+        go false = omega arith
+
+    -- without a tag the rows up to the reached ones are none
+    fail-window : cond (tagged tag) (map (claim failType) (eligible tables day t tag)) []
+        ≡ map (claim failType) (select (λ row. ltb (contractDate tag) (row .beneficiaryDate)) (take (reached - first) (drop first rows)))
+    unfolding firstRow select
+    fail-window = go (tagged tag)
+      where
+        maximum : ℕ
+        maximum = maximumFor maximumNumbers (typeOf (securityOf tables (t .security))) (frequencyOf (securityOf tables (t .security)))
+
+        go : (b : Bool) → cond b (map (claim failType) (eligible tables day t tag)) []
+            ≡ map (claim failType) (select (λ row. ltb (contractDate tag) (row .beneficiaryDate)) (take (reached - cond b (reached - maximum) reached) (drop (cond b (reached - maximum) reached) rows)))
+        go true = ap (map (claim failType)) (eligible-window calendar tables day t sound held tag)
+        go false =
+            let z : 0 ≡ reached - reached = omega arith in
+            ap (λ (n : ℕ). map (claim failType) (select (λ (row : Row). ltb (contractDate tag) (row .beneficiaryDate)) (take n (drop reached rows)))) z
+
+    code-zero : t .code ≡ 0 → Recently calendar tables day number t tag (recentRows tables day t tag)
+    unfolding recentRows
+    code-zero z =
+        let ends = reached-end calendar tables day t in
+        let w : Recent = record { after = contractDate tag; first = first; reached = reached; end = interimEnd tables (t .security) day } in
+        rw (eq-eqb (t .code) 0 z) record {
+          claims = claims-by-rows calendar tables day number t tag z
+              ∙ ap₂ (λ (x y : List Claim). x ++ y) fail-window (ap (map (claim interimType)) (interim-window calendar tables day t sound held))
+              ∙ due-each calendar tables day number t w first-reached (ends .0) (ends .1);
+          order = omega (arith, first-reached, ends .0);
+          asks = claiming calendar tables day t sound held;
+        }
+
+    pub recently : Recently calendar tables day number t tag (recentRows tables day t tag)
+    recently = go (eqb (t .code) 0) refl
+      where
+        go : (b : Bool) → eqb (t .code) 0 ≡ b → Recently calendar tables day number t tag (recentRows tables day t tag)
+        go true e = code-zero (eqb-true (t .code) 0 e)
+        go false e =
+            let h = eqb-false (t .code) 0 e in
+            subst (Recently calendar tables day number t tag) (rows-by-code tables day t tag h) (other-code tag h)

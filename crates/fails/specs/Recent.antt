@@ -1,30 +1,54 @@
--- The rows on which a transfer claims, found once for the pass that counts its claims and the pass that stores them.
+-- The rows on which a transfer claims, found once for the pass that counts its claims and the pass that stores them: those from the
+-- first up to the reached ones are claimed as failed where the Contract Date allows, those from there up to the end as interim.
 use mathlib.Core.Bool.{cond}
-use mathlib.Core.List.{List}
+use mathlib.Core.List.{List, [], _∷_}
 use Prim.Native.Nat.{ℕ, _+_, _-_}
+use lib.Dec.{eqb, ltb}
 use Rattle.lists.specs.Tabulate.{each}
 use Rattle.records.specs.declared.Claim.{Claim}
 use Rattle.records.specs.declared.Transfer.{Transfer}
-use Rattle.securities.specs.Securities.{securityOf, typeOf, frequencyOf}
+use Rattle.securities.specs.Securities.{securityOf, typeOf, frequencyOf, Row}
 use Rattle.tags.specs.declared.Tag.{Tag}
-use Rattle.tags.specs.ContractDateTag.{contractDate}
-use Rattle.claims.specs.Fails.{maximumNumbers, maximumFor, fails}
-use Rattle.claims.specs.Reached.{rowAt, reachedRows, failClaim}
+use Rattle.tags.specs.ContractDateTag.{tagged, contractDate}
+use Rattle.claims.specs.Amounts.{failType, interimType, claimOn}
+use Rattle.claims.specs.Fails.{maximumNumbers, maximumFor, transferParties}
+use Rattle.claims.specs.Reached.{rowAt, reachedRows, interimEnd}
 use Rattle.fails.specs.declared.Recent.{Recent}
 
--- No rows: the transfer is not failed.
-unfoldable pub noRows : Recent
-noRows = record { contract = 0; first = 0; count = 0 }
+-- ---- the rows
 
--- The most recent rows that the day has reached, up to the published maximum number, with the Contract Date.
+-- No rows: the tracking code is not 0.
+unfoldable pub noRows : Recent
+noRows = record { after = 0; first = 0; reached = 0; end = 0 }
+
+-- The first row that a transfer may claim as failed: of those that the day has reached by Beneficiary Date the most recent count, up to
+-- the published maximum number; without a tag none does.
+unfoldable pub firstRow : List ℕ → ℕ → Transfer → Tag → ℕ
+firstRow tables day t tag =
+    let words = securityOf tables (t .security) in
+    let reached = reachedRows 1 tables (t .security) day in
+    cond (tagged tag) (reached - maximumFor maximumNumbers (typeOf words) (frequencyOf words)) reached
+
+-- The rows of a transfer, with the Contract Date.
 unfoldable pub recentRows : List ℕ → ℕ → Transfer → Tag → Recent
 recentRows tables day t tag =
-    let words = securityOf tables (t .security) in
-    let n = reachedRows tables (t .security) day in
-    let first = n - maximumFor maximumNumbers (typeOf words) (frequencyOf words) in
-    cond (fails t tag) (record { contract = contractDate tag; first = first; count = n - first }) noRows
+    cond (eqb (t .code) 0)
+    (record { after = contractDate tag; first = firstRow tables day t tag; reached = reachedRows 1 tables (t .security) day; end = interimEnd tables (t .security) day })
+    noRows
 
--- The claims on such rows.
+-- ---- their claims
+
+-- The claim type of a row, 0 where it is not claimed: behind the reached rows it is interim; one of them is claimed as failed if its
+-- Beneficiary Date is after the Contract Date.
+unfoldable pub dueType : Recent → Row → ℕ
+dueType rows row = cond (ltb (row .index) (rows .reached)) (cond (ltb (rows .after) (row .beneficiaryDate)) failType 0) interimType
+
+-- The claim on a row, or none.
+unfoldable pub dueClaim : List ℕ → List ℕ → ℕ → ℕ → Transfer → Recent → Row → List Claim
+dueClaim calendar tables day number t rows row =
+    cond (eqb (dueType rows row) 0) [] (claimOn calendar tables day number (transferParties t) (t .par) (dueType rows row) row ∷ [])
+
+-- The claims on the rows, one after the other.
 unfoldable pub recentClaims : List ℕ → List ℕ → ℕ → ℕ → Transfer → Recent → List Claim
 recentClaims calendar tables day number t rows =
-    each (rows .count) (λ j. failClaim calendar tables day number t (rows .contract) (rowAt tables (t .security) (rows .first + j)))
+    each (rows .end - rows .first) (λ j. dueClaim calendar tables day number t rows (rowAt tables (t .security) (rows .first + j)))

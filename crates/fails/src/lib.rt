@@ -1,46 +1,65 @@
-// The fail claims of a transfer (document 01, section Fail claims): the most recent rows that the day has reached, up to the published
-// maximum number, and of these each with a Beneficiary Date after the Contract Date. Tables keep their rules, so filled rows come
-// first and Beneficiary Dates rise. A pass with write false counts the claims, one with write true stores them too.
+// The claims of a transfer (document 01, section Fail claims; document 02, card 1, interim claims). Failed: the most recent rows that
+// the day has reached by Beneficiary Date, up to the published maximum number, and of these each with a Beneficiary Date after the
+// Contract Date. Interim: the rows behind them that it has reached by Record Date. Tables keep their rules, so filled rows come first
+// and both dates rise. A pass with write false counts the claims, one with write true stores them too.
 ghost use mathlib.Core.Path.{_≡_};
 ghost use Prim.Native.Nat.{_+_, _-_, _≤_, _<_};
 ghost use lib.ListN.{length};
-ghost use Rattle.securities.specs.Securities.{securityOf, frequencyOf};
-ghost use Rattle.claims.specs.Fails.{maximumNumbers, maximumFor};
+ghost use Rattle.securities.specs.Securities.{securityOf, frequencyOf, rowOf};
+ghost use Rattle.claims.specs.Fails.{maximumNumbers, isMbs, maximumFor};
 ghost use Rattle.claims.specs.Passes.{Free, Passed};
-ghost use Rattle.claims.specs.Reached.{rowAt, reachedRows, failClaim, Failing};
-ghost use Rattle.fails.specs.Recent.{noRows, recentRows, recentClaims};
+ghost use Rattle.claims.specs.Reached.{rowAt, reachedRows, interimEnd, Claiming};
+ghost use Rattle.fails.specs.Recent.{noRows, recentRows, dueType, dueClaim, recentClaims};
 use records::Transfer;
 use tags::Tag;
 
-// The rows on which a transfer claims: its Contract Date, the first row and how many there are.
+// The rows on which a transfer claims: those from first up to reached as failed if their Beneficiary Date is after the Contract Date,
+// those from reached up to end as interim.
 pub struct Recent {
-    pub contract: u32,
+    pub after: u32,
     pub first: u8,
-    pub count: u8,
+    pub reached: u8,
+    pub end: u8,
 }
+
+// The word of a row that holds its Record Date.
+const RECORD_DATE: usize = 0;
+
+// The word of a row that holds its Beneficiary Date.
+const BENEFICIARY_DATE: usize = 1;
+
+// The claim type of a row that is not claimed.
+const NONE: u8 = 0;
 
 // The published maximum numbers of Beneficiary Dates: MBS, then monthly, quarterly, semiannual, annual.
 const MAXIMUM_NUMBERS: [u8; 5] = [7, 6, 3, 2, 1];
+
+// Whether a type is MBS.
+fn is_mbs(security_type: u32) -> bool
+    ensures { λ r. ⌜ r ≡ isMbs «security_type» ⌝ }
+{
+    3 <= security_type
+}
 
 // The maximum number for a type and a frequency.
 fn maximum_for(security_type: u32, frequency: u32) -> u8
     requires { ⌜ frequency ≤ 4 ⌝ }
     ensures { λ r. ⌜ r ≡ maximumFor maximumNumbers «security_type» frequency ⌝ }
 {
-    if 3 <= security_type {
+    if is_mbs(security_type) {
         return MAXIMUM_NUMBERS[0];
     }
     MAXIMUM_NUMBERS[frequency as usize]
 }
 
-// How many rows of a security, from the first on, the day has reached.
-fn reached_rows(tables: &[u32], security: u8, day: u32) -> u8
-    requires { ⌜ (length (now tables) ≡ 1824) × (security < 16) ⌝ }
-    ensures { λ r. ⌜ r ≡ reachedRows (now (tables .entry)) security day ⌝ }
+// How many rows of a security, from the first on, the day has reached by the date in a word of the row.
+fn reached_rows(tables: &[u32], security: u8, day: u32, column: usize) -> u8
+    requires { ⌜ (length (now tables) ≡ 1824) × (security < 16) × (column < 2) ⌝ }
+    ensures { λ r. ⌜ r ≡ reachedRows column (now (tables .entry)) security day ⌝ }
 {
     let mut i: u8 = 0;
     while i < 16 {
-        let date = tables[114 * (security as usize) + 2 + 7 * (i as usize) + 1];
+        let date = tables[114 * (security as usize) + 2 + 7 * (i as usize) + column];
         if date == 0 {
             return i;
         }
@@ -50,6 +69,21 @@ fn reached_rows(tables: &[u32], security: u8, day: u32) -> u8
         i += 1;
     }
     i
+}
+
+// The row behind the interim rows, which begin behind the rows that the day has reached by Beneficiary Date.
+fn interim_end(tables: &[u32], security: u8, day: u32, reached: u8) -> u8
+    requires { ⌜ (length (now tables) ≡ 1824) × (security < 16) × (reached ≡ reachedRows 1 (now tables) security day) ⌝ }
+    ensures { λ r. ⌜ r ≡ interimEnd (now (tables .entry)) security day ⌝ }
+{
+    if !is_mbs(securities::security_type(tables, security as usize)) {
+        return reached;
+    }
+    let recorded = reached_rows(tables, security, day, RECORD_DATE);
+    if recorded <= reached {
+        return reached;
+    }
+    recorded
 }
 
 // The first of the last rows, up to a maximum number, of n.
@@ -62,14 +96,15 @@ fn first_of_last(n: u8, maximum: u8) -> u8
     n - maximum
 }
 
-// No rows: the transfer is not failed.
+// No rows: the tracking code is not 0.
 fn no_rows() -> Recent
     ensures { λ r. ⌜ r ≡ noRows ⌝ }
 {
     Recent {
-        contract: 0,
+        after: 0,
         first: 0,
-        count: 0,
+        reached: 0,
+        end: 0,
     }
 }
 
@@ -81,21 +116,41 @@ pub fn recent_rows(tables: &[u32], day: u32, t: Transfer, tag: Tag) -> Recent
     if t.code != 0 {
         return no_rows();
     }
+    let reached = reached_rows(tables, t.security, day, BENEFICIARY_DATE);
+    let end = interim_end(tables, t.security, day, reached);
     let Tag::On(date) = tag else {
-        return no_rows();
+        return Recent {
+            after: 0,
+            first: reached,
+            reached,
+            end,
+        };
     };
     let s = t.security as usize;
     let maximum = maximum_for(
         securities::security_type(tables, s),
         securities::frequency(tables, s),
     );
-    let reached = reached_rows(tables, t.security, day);
-    let first = first_of_last(reached, maximum);
     Recent {
-        contract: date.0,
-        first,
-        count: reached - first,
+        after: date.0,
+        first: first_of_last(reached, maximum),
+        reached,
+        end,
     }
+}
+
+// The claim type of a row, none where it is not claimed.
+fn due_type(rows: Recent, index: u8, row: &[u32]) -> u8
+    requires { ⌜ length (now row) ≡ 7 ⌝ }
+    ensures { λ r. ⌜ r ≡ dueType rows (rowOf index (now (row .entry))) ⌝ }
+{
+    if rows.reached <= index {
+        return amounts::INTERIM;
+    }
+    if row[1] <= rows.after {
+        return NONE;
+    }
+    amounts::FAIL
 }
 
 // The claim on one row, counted or stored at the record place n; the next record place.
@@ -108,15 +163,16 @@ fn pass_row(
     day: u32,
     number: u32,
     t: Transfer,
-    contract: u32,
+    rows: Recent,
     index: u8,
 ) -> usize
-    requires { ⌜ Failing (now calendar) (now tables) t (index + 1) × Free write (now buffer) n (failClaim (now calendar) (now tables) day number t contract (rowAt (now tables) (t .security) index)) ⌝ }
-    ensures { λ r. ⌜ Passed write (now (buffer .entry)) (now (buffer .exit)) n r (failClaim (now (calendar .entry)) (now (tables .entry)) day number t contract (rowAt (now (tables .entry)) (t .security) index)) ⌝ }
+    requires { ⌜ Claiming (now calendar) (now tables) t (index + 1) × Free write (now buffer) n (dueClaim (now calendar) (now tables) day number t rows (rowAt (now tables) (t .security) index)) ⌝ }
+    ensures { λ r. ⌜ Passed write (now (buffer .entry)) (now (buffer .exit)) n r (dueClaim (now (calendar .entry)) (now (tables .entry)) day number t rows (rowAt (now (tables .entry)) (t .security) index)) ⌝ }
 {
     let at = 114 * (t.security as usize) + 2 + 7 * (index as usize);
     let row = &tables[at..at + 7];
-    if row[1] <= contract {
+    let claim_type = due_type(rows, index, row);
+    if claim_type == NONE {
         return n;
     }
     if !write {
@@ -131,7 +187,7 @@ fn pass_row(
         t.receiver,
         t.sender,
         t.dollars(),
-        amounts::FAIL,
+        claim_type,
         index,
         row,
     );
@@ -150,12 +206,11 @@ pub fn transfer_claims(
     t: Transfer,
     rows: Recent,
 ) -> usize
-    requires { ⌜ Failing (now calendar) (now tables) t (rows .first + rows .count) × Free write (now buffer) 0 (recentClaims (now calendar) (now tables) day number t rows) ⌝ }
+    requires { ⌜ (rows .first ≤ rows .end) × Claiming (now calendar) (now tables) t (rows .end) × Free write (now buffer) 0 (recentClaims (now calendar) (now tables) day number t rows) ⌝ }
     ensures { λ r. ⌜ Passed write (now (buffer .entry)) (now (buffer .exit)) 0 r (recentClaims (now (calendar .entry)) (now (tables .entry)) day number t rows) ⌝ }
 {
-    let contract = rows.contract;
     let first = rows.first;
-    let count = rows.count;
+    let count = rows.end - first;
     let mut n: usize = 0;
     let mut j: u8 = 0;
     while j < count {
@@ -168,7 +223,7 @@ pub fn transfer_claims(
             day,
             number,
             t,
-            contract,
+            rows,
             first + j,
         );
         j += 1;

@@ -2,7 +2,8 @@
 use mathlib.Core.Path.{refl}
 use borrow.Author.Tests.{not-true, not-false}
 use Rattle.claims.specs.Passes.{passed-nothing, passed-count, passed-store, room-one}
-use Rattle.claims.proofs.RowLoops.{fail-none, fail-one, claimable}
+use Rattle.claims.proofs.RowLoops.{claimable}
+use Rattle.fails.proofs.Due.{due-none, due-one}
 use borrow.Author.Needs.{needs}
 use Rattle.fails.proofs.pass_row.Statement.{statement}
 use Rattle.fails.proofs.pass_row.Tie as tie
@@ -37,17 +38,18 @@ part-row-start c = search needs
 part-row-end : tie.Need-part-row-end
 part-row-end c = search needs
 
-shared-slice-read-if1 : tie.Need-shared-slice-read-if1
-shared-slice-read-if1 c = search needs
+due-type-requires : tie.Need-due-type-requires
+due-type-requires c κs = search needs
 
 returns : tie.Need-returns
-returns c = passed-nothing _ _ _ _ (fail-none _ _ _ _ _ _ _ (c .if1 .taken))
+returns c = passed-nothing _ _ _ _ (due-none _ _ _ _ _ _ _ _ (c .before .due-type .ensures) (c .if1 .taken))
 
 add-result : tie.Need-add-result
 add-result c = search needs
 
 returns-2 : tie.Need-returns-2
-returns-2 c = passed-count _ _ _ _ _ (not-true _ (c .if2 .taken)) (fail-one _ _ _ _ _ _ _ _ _ (c .before .if1 .left) refl refl)
+returns-2 c =
+    passed-count _ _ _ _ _ (not-true _ (c .if2 .taken)) (due-one _ _ _ _ _ _ _ _ (c .before .before .due-type .ensures) _ _ (c .before .if1 .left) refl refl)
 
 dollars-requires : tie.Need-dollars-requires
 dollars-requires c κs = search needs
@@ -57,21 +59,23 @@ claim-on-requires c κs = claimable _ (c .before .before .before .before .before
 
 put-claim-requires : tie.Need-put-claim-requires
 put-claim-requires c κs =
-    let a = c .before .before .before .before .before .before .before .before .before .before .before in
+    let s = c .before .before .before .before in
+    let a = s .before .before .before .before .before .before .before in
     room-one (a .args .buffer .now) _ _ _
-    (fail-one _ _ _ _ _ _ _ _ _ (c .before .before .before .before .if1 .left) (c .before .before .dollars .ensures) (c .before .claim-on .ensures))
+    (due-one _ _ _ _ _ _ _ _ (s .before .due-type .ensures) _ _ (s .if1 .left) (c .before .before .dollars .ensures) (c .before .claim-on .ensures))
     (a .pre .1 .room (not-false _ (c .before .before .before .if2 .left)))
 
 add-result-2 : tie.Need-add-result-2
-add-result-2 c = search needs
+add-result-2 c = let f = c .before .before .before .before .before .before .before .before .before .before .before .before .before .before .pre .1 .few in search needs
 
 same-length : tie.Need-same-length
 same-length c = search needs
 
 returns-3 : tie.Need-returns-3
 returns-3 c =
+    let s = c .before .before .before .before .before .before .before in
     passed-store _ _ _ _ _ _ (not-false _ (c .before .before .before .before .before .before .if2 .left))
-    (fail-one _ _ _ _ _ _ _ _ _ (c .before .before .before .before .before .before .before .if1 .left) (c .before .before .before .before .before .dollars .ensures) (c .before .before .before .before .claim-on .ensures))
+    (due-one _ _ _ _ _ _ _ _ (s .before .due-type .ensures) _ _ (s .if1 .left) (c .before .before .before .before .before .dollars .ensures) (c .before .before .before .before .claim-on .ensures))
     (c .before .before .put-claim .ensures)
 
 pub pass-row-spec : {M : Type 1} → statement M
@@ -88,7 +92,7 @@ pass-row-spec =
     sub-row
     part-row-start
     part-row-end
-    shared-slice-read-if1
+    due-type-requires
     returns
     add-result
     returns-2

@@ -6,13 +6,13 @@ use Rattle.fails.proofs.reached_rows.Statement.{statement}
 use Rattle.fails.proofs.reached_rows.Tie as tie
 
 abbrev Inv-loop : tie.InvT-loop
-Inv-loop tables security day i₀ i = Reaching tables security day i
+Inv-loop tables security day column i₀ i = Reaching column tables security day i
 
 abbrev μ-loop : tie.MeasureT-loop
-μ-loop tables security day i₀ i = 16 - i
+μ-loop tables security day column i₀ i = 16 - i
 
 loop-holds : tie.Need-loop-holds Inv-loop μ-loop
-loop-holds c = reach-start _ _ _
+loop-holds c = reach-start _ _ _ _
 
 mul-date : tie.Need-mul-date Inv-loop μ-loop
 mul-date c = search needs
@@ -39,10 +39,10 @@ shared-slice-read-date : tie.Need-shared-slice-read-date Inv-loop μ-loop
 shared-slice-read-date c = search needs
 
 returns : tie.Need-returns Inv-loop μ-loop
-returns c = reach-empty (c .before .before .before .loop .inv) (search needs) (c .if1 .taken)
+returns c = reach-empty (c .before .before .before .loop .inv) (search needs) (search needs) (c .if1 .taken)
 
 returns-2 : tie.Need-returns-2 Inv-loop μ-loop
-returns-2 c = reach-later (c .before .before .before .before .loop .inv) (search needs) (c .if2 .taken)
+returns-2 c = reach-later (c .before .before .before .before .loop .inv) (search needs) (search needs) (c .if2 .taken)
 
 add-i : tie.Need-add-i Inv-loop μ-loop
 add-i c = search needs
@@ -51,7 +51,7 @@ loop-less : tie.Need-loop-less Inv-loop μ-loop
 loop-less c = search needs
 
 loop-again : tie.Need-loop-again Inv-loop μ-loop
-loop-again c = reach-next (c .before .before .before .before .loop .inv) (search needs) (c .before .if1 .left) (c .if2 .left)
+loop-again c = reach-next (c .before .before .before .before .loop .inv) (search needs) (search needs) (c .before .if1 .left) (c .if2 .left)
 
 returns-3 : tie.Need-returns-3 Inv-loop μ-loop
 returns-3 c = reach-end (c .before .loop .inv) (c .loop-test .left)

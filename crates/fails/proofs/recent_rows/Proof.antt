@@ -1,4 +1,4 @@
--- A transfer that is not failed has no rows; those of a failed one are the last that the day has reached.
+-- Another tracking code has no rows; without a tag the first row is behind the reached ones, with one it is the first of the last of them.
 use mathlib.Core.Path.{_≡_, refl, _∙_, ap₂, subst⁻¹}
 use mathlib.Core.Bool.{false}
 use mathlib.Core.Logic.{⊎-elim}
@@ -8,7 +8,7 @@ use denote.Enum.Declared.{tagOf}
 use types.Run.{OneOf}
 use Rattle.tags.specs.declared.Tag.{Tag}
 use Rattle.tags.specs.declared.Tag.the-variants.{Absent, Several, Unended, NotDate, On}
-use Rattle.tags.specs.ContractDateTag.{tagged}
+use Rattle.tags.specs.ContractDateTag.{tagged, contractDate}
 use Rattle.tags.proofs.Tag.{the-type}
 use Rattle.claims.specs.Fails.{maximumNumbers, maximumFor}
 use Rattle.fails.proofs.Claimed.{rows-by-code, rows-untagged, rows-tagged}
@@ -18,12 +18,12 @@ use Rattle.fails.proofs.recent_rows.Statement.{statement}
 use Rattle.fails.proofs.recent_rows.Tie as tie
 
 -- a tag with no date
-untagged : (tag : Tag) → OneOf (0 ∷ 1 ∷ 2 ∷ 3 ∷ []) (tagOf the-type tag) → tagged tag ≡ false
-unfolding tagged
-untagged Absent o = refl
-untagged Several o = refl
-untagged Unended o = refl
-untagged NotDate o = refl
+untagged : (tag : Tag) → OneOf (0 ∷ 1 ∷ 2 ∷ 3 ∷ []) (tagOf the-type tag) → (tagged tag ≡ false) × (contractDate tag ≡ 0)
+unfolding tagged contractDate
+untagged Absent o = (refl, refl)
+untagged Several o = (refl, refl)
+untagged Unended o = (refl, refl)
+untagged NotDate o = (refl, refl)
 untagged (On d) o = absurd (no-key o)
   where
     no-key : OneOf (0 ∷ 1 ∷ 2 ∷ 3 ∷ []) 4 → ⊥
@@ -35,14 +35,19 @@ no-rows-requires c κs = search needs
 returns : tie.Need-returns
 returns c = c .no-rows .ensures ∙ rows-by-code _ _ _ _ (c .before .if1 .taken)
 
+reached-rows-requires : tie.Need-reached-rows-requires
+reached-rows-requires c κs = search needs
+
+interim-end-requires : tie.Need-interim-end-requires
+interim-end-requires c κs = search needs
+
 enum-known-tag : tie.Need-enum-known-tag
 enum-known-tag c = search needs
 
-no-rows-requires-2 : tie.Need-no-rows-requires-2
-no-rows-requires-2 c κs = search needs
-
 returns-2 : tie.Need-returns-2
-returns-2 c = c .no-rows2 .ensures ∙ rows-untagged _ _ _ _ (untagged _ (c .before .match .keys2))
+returns-2 c =
+    let u = untagged _ (c .match .keys2) in
+    rows-untagged _ _ _ _ (c .before .before .before .if1 .left) (c .before .before .reached-rows .ensures) (c .before .interim-end .ensures) (u .0) (u .1)
 
 cast-s : tie.Need-cast-s
 cast-s c = search needs
@@ -54,21 +59,17 @@ frequency-requires : tie.Need-frequency-requires
 frequency-requires c κs = search needs
 
 maximum-for-requires : tie.Need-maximum-for-requires
-maximum-for-requires c κs = subst⁻¹ (λ (k : ℕ). k ≤ 4) (c .frequency .ensures) (c .before .before .before .before .before .before .before .before .before .pre .2)
-
-reached-rows-requires : tie.Need-reached-rows-requires
-reached-rows-requires c κs = search needs
+maximum-for-requires c κs = subst⁻¹ (λ (k : ℕ). k ≤ 4) (c .frequency .ensures) (c .before .before .before .before .before .before .before .before .before .before .before .pre .2)
 
 first-of-last-requires : tie.Need-first-of-last-requires
 first-of-last-requires c κs = search needs
 
-sub-t13 : tie.Need-sub-t13
-sub-t13 c = search needs
-
 returns-3 : tie.Need-returns-3
 returns-3 c =
-    rows-tagged _ _ _ _ (c .before .before .before .before .before .before .before .tag .given .1) (c .before .before .before .before .before .before .before .before .before .if1 .left) (c .before .reached-rows .ensures)
-    (c .before .before .maximum-for .ensures ∙ ap₂ (maximumFor maximumNumbers) (c .before .before .before .before .security-type .ensures) (c .before .before .before .frequency .ensures)) (c .first-of-last .ensures)
+    let s = c .before .before .before .before .before .before .before .before in
+    rows-tagged _ _ _ _ (s .before .before .if1 .left) (s .before .reached-rows .ensures) (s .interim-end .ensures) (c .before .before .before .before .before .before .tag .given .1)
+    (c .before .maximum-for .ensures ∙ ap₂ (maximumFor maximumNumbers) (c .before .before .before .security-type .ensures) (c .before .before .frequency .ensures))
+    (c .first-of-last .ensures)
 
 pub recent-rows-spec : {M : Type 1} → statement M
 recent-rows-spec =
@@ -76,14 +77,13 @@ recent-rows-spec =
     (tie.spec
     no-rows-requires
     returns
+    reached-rows-requires
+    interim-end-requires
     enum-known-tag
-    no-rows-requires-2
     returns-2
     cast-s
     security-type-requires
     frequency-requires
     maximum-for-requires
-    reached-rows-requires
     first-of-last-requires
-    sub-t13
     returns-3)

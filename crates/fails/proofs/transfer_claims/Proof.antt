@@ -1,18 +1,21 @@
 -- The loop keeps that the pass over the first j rows is made.
 use Prim.Native.Nat.{_+_, _-_}
-use Rattle.claims.specs.Reached.{rowAt, failClaim}
-use Rattle.claims.proofs.RowLoops.{Passing, passing-start, passing-now, passing-more, passing-end, failing-below}
-use Rattle.fails.specs.Recent.{recentClaims}
+use Rattle.claims.specs.Reached.{rowAt}
+use Rattle.claims.proofs.RowLoops.{Passing, passing-start, passing-now, passing-more, passing-end, claiming-below}
+use Rattle.fails.specs.Recent.{dueClaim, recentClaims}
 use borrow.Author.Needs.{needs}
 use Rattle.fails.proofs.transfer_claims.Statement.{statement}
 use Rattle.fails.proofs.transfer_claims.Tie as tie
 
 abbrev Inv-loop : tie.InvT-loop
-Inv-loop write buffer₀ calendar tables day number t contract first count n₀ j₀ buffer n j =
-    Passing write buffer₀ buffer (λ j. failClaim calendar tables day number t contract (rowAt tables (t .security) (first + j))) count j n
+Inv-loop write buffer₀ calendar tables day number t rows first count n₀ j₀ buffer n j =
+    Passing write buffer₀ buffer (λ j. dueClaim calendar tables day number t rows (rowAt tables (t .security) (first + j))) count j n
 
 abbrev μ-loop : tie.MeasureT-loop
-μ-loop write buffer₀ calendar tables day number t contract first count n₀ j₀ buffer n j = count - j
+μ-loop write buffer₀ calendar tables day number t rows first count n₀ j₀ buffer n j = count - j
+
+sub-count : tie.Need-sub-count Inv-loop μ-loop
+sub-count c = search needs
 
 loop-holds : tie.Need-loop-holds Inv-loop μ-loop
 loop-holds c = passing-start _ _ _ _
@@ -23,8 +26,8 @@ add-pass-row c = search needs
 pass-row-requires : tie.Need-pass-row-requires Inv-loop μ-loop
 unfolding recentClaims
 pass-row-requires c κs = (
-  failing-below (search needs) (c .before .before .before .before .before .before .pre .0),
-  passing-now _ _ _ _ (c .before .before .before .before .before .before .pre .1) (c .before .before .loop .inv) (search needs),
+  claiming-below (search needs) (c .before .before .before .before .before .before .before .pre .1),
+  passing-now _ _ _ _ (c .before .before .before .before .before .before .before .pre .2) (c .before .before .loop .inv) (search needs),
 )
 
 add-j : tie.Need-add-j Inv-loop μ-loop
@@ -35,7 +38,7 @@ loop-less c = search needs
 
 loop-again : tie.Need-loop-again Inv-loop μ-loop
 unfolding recentClaims
-loop-again c = passing-more _ _ _ _ (c .before .before .before .before .before .before .before .before .before .pre .1) (c .before .before .before .before .before .loop .inv) (search needs) (c .before .before .pass-row .ensures) (c .before .before .pass-row .kept .1 .0)
+loop-again c = passing-more _ _ _ _ (c .before .before .before .before .before .before .before .before .before .before .pre .2) (c .before .before .before .before .before .loop .inv) (search needs) (c .before .before .pass-row .ensures) (c .before .before .pass-row .kept .1 .0)
 
 same-length : tie.Need-same-length Inv-loop μ-loop
 same-length c = c .before .loop .inv .kept
@@ -50,6 +53,7 @@ transfer-claims-spec =
     (tie.spec
     Inv-loop
     μ-loop
+    sub-count
     loop-holds
     add-pass-row
     pass-row-requires
