@@ -6,10 +6,10 @@ use Rattle.history.specs.Calls.{bufferOf, claimsOf}
 use Rattle.history.specs.Causes.{recordCauses, outOfRange, fieldCauses, countCauses, lastDayCauses, roomCauses, transferCauses, callCauses, causes, numberFor, openingNumber}
 use Rattle.history.specs.Results.{nextBook, nextBalances, resultFor, result, openedFor, opened, run, runFrom}
 use Rattle.history.specs.Ledger.{started, isIncrease, isDecrease, increasedBy, decreasedBy, increases, decreases, parLent, transferCount, transfers, bookOf, balancesOf, numberOn, dayAfter, keep, answerFor, judged}
-use Rattle.history.specs.Owed.{amounts, isFailed, lentBy, owedBy, owed}
+use Rattle.history.specs.Owed.{amounts, isSent, isFailed, lentBy, owedBy, owed}
 use Rattle.history.specs.Statement.{recordsIn, centsIn, counts, paidIn, paid}
 use Rattle.history.specs.Continuation.{owedSince}
 
 unfoldable pub openedHistory : ℕ
-unfolding openedClaims openedBook bufferOf claimsOf recordCauses outOfRange fieldCauses countCauses lastDayCauses roomCauses transferCauses callCauses causes numberFor openingNumber nextBook nextBalances resultFor result openedFor opened run runFrom started isIncrease isDecrease increasedBy decreasedBy increases decreases parLent transferCount transfers bookOf balancesOf numberOn dayAfter keep answerFor judged amounts isFailed lentBy owedBy owed recordsIn centsIn counts paidIn paid owedSince
+unfolding openedClaims openedBook bufferOf claimsOf recordCauses outOfRange fieldCauses countCauses lastDayCauses roomCauses transferCauses callCauses causes numberFor openingNumber nextBook nextBalances resultFor result openedFor opened run runFrom started isIncrease isDecrease increasedBy decreasedBy increases decreases parLent transferCount transfers bookOf balancesOf numberOn dayAfter keep answerFor judged amounts isSent isFailed lentBy owedBy owed recordsIn centsIn counts paidIn paid owedSince
 openedHistory = 0

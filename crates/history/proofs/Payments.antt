@@ -1,29 +1,30 @@
--- The claims of a call pay what the call adds to what the history owes. A transfer's claims are a sum over its eligible rows; of a
--- close's claims only those of one security, lender and borrower count between two parties.
-use mathlib.Core.Path.{_≡_, refl, sym, ap, _∙_, subst}
+-- The claims of a call pay what the call adds to what the history owes. A transfer's claims are a sum over its eligible and its interim
+-- rows; of a close's claims only those of one security, lender and borrower count between two parties.
+use mathlib.Core.Path.{_≡_, refl, sym, ap, ap₂, _∙_, subst}
 use mathlib.Core.Logic.{_≢_}
 use mathlib.Core.Bool.{Bool, true, false, cond, _&&_}
-use mathlib.Core.List.{List, [], _∷_, map}
-use Prim.Native.Nat.{ℕ, _<_}
+use mathlib.Core.List.{List, [], _∷_, map, map-append}
+use Prim.Native.Nat.{ℕ, _+_, _<_}
 use native.Mathlib.Nat.{zero-mul}
 use native.Mathlib.Omega.{arith}
 use native.Mathlib.Decide.{decLt}
 use lib.Dec.{ltb, eqb}
 use lib.ListN.{getD}
 use borrow.Author.Tests.{ltb-false}
-use Rattle.lists.specs.Sums.{sum, sum-one, sum-map, sum-equal, sum-zero, sum-cond, cond-zero}
+use Rattle.lists.specs.Sums.{sum, sum-one, sum-append, sum-map, sum-equal, sum-zero, sum-cond, cond-zero}
 use Rattle.lists.specs.Tabulate.{each, eachOf, sum-eachOf, sum-each-none, sum-each-one}
 use Rattle.records.specs.declared.Claim.{Claim}
 use Rattle.records.specs.declared.ReadClaim.the-variants.{Is}
 use Rattle.records.specs.MessageRecords.{transferOf}
 use Rattle.securities.specs.Securities.{Row}
-use Rattle.claims.specs.Amounts.{Part, ofInterest, ofPrincipal, centsOn, centsFor, factorFor, amount, failType, lendingType, Parties, claimOn}
-use Rattle.claims.specs.Fails.{messageTag, eligible, Due, due, fails, dues, transferParties, transferClaims}
+use Rattle.tags.specs.ContractDateTag.{tagged}
+use Rattle.claims.specs.Amounts.{Part, ofInterest, ofPrincipal, centsOn, centsFor, factorFor, amount, failType, interimType, lendingType, Parties, claimOn}
+use Rattle.claims.specs.Fails.{messageTag, eligible, interim, Due, due, fails, dues, transferParties, transferClaims}
 use Rattle.claims.specs.Close.{crossed, loanParties, loanClaim, securityBalances, lenderBalances, rowClaims, closeClaims}
 use Rattle.claims.proofs.Crossed.{balance-word}
 use Rattle.book.specs.Book.{Position, word, balanceAt}
 use Rattle.book.proofs.Words.{three, three-refl}
-use Rattle.history.specs.Owed.{amounts, isFailed}
+use Rattle.history.specs.Owed.{amounts, isSent, isFailed}
 use Rattle.history.specs.Statement.{centsIn, counts, paidIn, paid}
 
 -- ---- parties
@@ -85,10 +86,20 @@ pub amounts-zero : (part : Part) (rowTest : ℕ → Bool) (rows : List Row) → 
 unfolding amounts
 amounts-zero part rowTest rows = sum-zero _ rows (λ row. rw (amount-zero part row) (cond-zero (rowTest (row .index))))
 
--- the claims of a transfer are a failed transfer's, from its sender to its receiver
+-- a transfer's claims are from its sender to its receiver: fail claims of a failed one, interim claims of one with code 0
+sent-test : (m : List ℕ) (x : Parties) → isSent m x ≡ (eqb (transferOf m .code) 0 && between (transferParties (transferOf m)) x)
+unfolding isSent between transferParties
+sent-test m x = refl
+
 failed-test : (m : List ℕ) (x : Parties) → isFailed m x ≡ (fails (transferOf m) (messageTag m) && between (transferParties (transferOf m)) x)
-unfolding isFailed fails between transferParties
-failed-test m x = refl
+unfolding isFailed isSent fails between transferParties
+failed-test m x = and-swap (tagged (messageTag m)) (eqb (transferOf m .code) 0) _
+  where
+    and-swap : (a b c : Bool) → a && (b && c) ≡ (b && a) && c
+    and-swap true true c = refl
+    and-swap true false c = refl
+    and-swap false true c = refl
+    and-swap false false c = refl
 
 module _ (calendar tables : List ℕ) (part : Part) (rowTest : ℕ → Bool) (x : Parties) where
   abbrev pays-by : Claim → ℕ
@@ -132,22 +143,32 @@ module _ (calendar tables : List ℕ) (part : Part) (rowTest : ℕ → Bool) (x 
       ∙ sum-equal _ _ rows (λ row. pays-one day n y par claimType row)
       ∙ sum-cond (between y x) (due-on par) rows
 
-  -- a failed transfer pays from its sender to its receiver, any other pays nothing
+  -- what a test allows, between the parties
+  pays-part : (b : Bool) (day n : ℕ) (y : Parties) (par claimType : ℕ) (rows : List Row)
+      → pays (map (λ (d : Due). claimOn calendar tables day n y par (d .claimType) (d .row)) (cond b (map (due claimType) rows) []))
+      ≡ cond (b && between y x) (amounts part rowTest par rows) 0
+  pays-part true day n y par claimType rows = pays-dues day n y par claimType rows
+  pays-part false day n y par claimType rows = pays-none
+
+  -- a transfer pays its eligible rows if it is failed and its interim rows if its code is 0, from its sender to its receiver
   pub pays-transfer : (day n : ℕ) (m : List ℕ)
       → pays (transferClaims calendar tables day n (transferOf m) (messageTag m))
       ≡ cond (isFailed m x) (amounts part rowTest (transferOf m .par) (eligible tables day (transferOf m) (messageTag m))) 0
+      + cond (isSent m x) (amounts part rowTest (transferOf m .par) (interim tables day (transferOf m))) 0
   unfolding transferClaims dues
-  pays-transfer day n m = rw (failed-test m x) (go (fails (transferOf m) (messageTag m)))
+  pays-transfer day n m =
+      let t = transferOf m in
+      let failed = cond (fails t (messageTag m)) (map (due failType) (eligible tables day t (messageTag m))) [] in
+      let between-dates = cond (eqb (t .code) 0) (map (due interimType) (interim tables day t)) [] in
+      ap pays (map-append claim failed between-dates)
+      ∙ sum-append pays-by (map claim failed) (map claim between-dates)
+      ∙ rw (failed-test m x, sent-test m x)
+      (ap₂ (λ (a b : ℕ). a + b)
+      (pays-part (fails t (messageTag m)) day n (transferParties t) (t .par) failType (eligible tables day t (messageTag m)))
+      (pays-part (eqb (t .code) 0) day n (transferParties t) (t .par) interimType (interim tables day t)))
     where
-      rows : List Row
-      rows = eligible tables day (transferOf m) (messageTag m)
-
-      go : (b : Bool)
-          → pays (map (λ (d : Due). claimOn calendar tables day n (transferParties (transferOf m)) (transferOf m .par) (d .claimType) (d .row))
-          (cond b (map (due failType) rows) []))
-          ≡ cond (b && between (transferParties (transferOf m)) x) (amounts part rowTest (transferOf m .par) rows) 0
-      go true = pays-dues day n (transferParties (transferOf m)) (transferOf m .par) failType rows
-      go false = pays-none
+      claim : Due → Claim
+      claim d = claimOn calendar tables day n (transferParties (transferOf m)) (transferOf m .par) (d .claimType) (d .row)
 
   -- ---- a close
 

@@ -1,5 +1,6 @@
 -- Computed rows: the number of a call where two neighbouring causes apply, each by its own, and where none does, at full size; the
--- answers of a list of calls with all their bytes; and a list whose tables change on the way.
+-- answers of a list of calls with all their bytes; what a list with interim claims pays and owes; and a list whose tables change on the
+-- way.
 use mathlib.Core.Path.{_≡_, refl}
 use mathlib.Core.Bool.{Bool, true, false, _&&_}
 use mathlib.Core.List.{List, [], _∷_, _++_}
@@ -15,6 +16,7 @@ use Rattle.history.specs.Calls.{Call, transfer, close}
 use Rattle.history.specs.Causes.{numberFor}
 use Rattle.history.specs.Results.{Answer, opened, run, runFrom}
 use Rattle.history.specs.Ledger.{Entry}
+use Rattle.history.specs.Owed.{owed}
 use Rattle.history.specs.Statement.{recordsIn, paid}
 use Rattle.history.specs.Continuation.{owedSince}
 use Rattle.history.proofs.Opened.{openedHistory}
@@ -79,6 +81,14 @@ lastTables = replicate 1710 0 ++ ((1 ∷ 4 ∷ 20230401 ∷ 20230401 ∷ 2023041
 -- a Record Date on the last open day
 lateTables : List ℕ
 lateTables = (3 ∷ 1 ∷ 20391230 ∷ 20391230 ∷ 20391230 ∷ 5000000 ∷ []) ++ replicate 1818 0
+
+-- on 20231207 the first Beneficiary Date is reached, and of the second and third rows the Record Dates
+interimTables : List ℕ
+interimTables =
+    (3 ∷ 1
+    ∷ 20231001 ∷ 20231001 ∷ 20231025 ∷ 5000000 ∷ 0 ∷ 0 ∷ 0
+    ∷ 20231101 ∷ 20231215 ∷ 20231220 ∷ 5000000 ∷ 0 ∷ 0 ∷ 0
+    ∷ 20231201 ∷ 20240115 ∷ 20240122 ∷ 5000000 ∷ 0 ∷ 0 ∷ 0 ∷ []) ++ replicate 1801 0
 
 record CauseRow : Type 0 where
   calendar : List ℕ
@@ -161,6 +171,12 @@ rows =
     row weekdays caseTables 20230404 4294967294 zeros (sent 1 1 2 0 0 0 200000 (tagLine 20230315) 35) 0
     ∷  -- room for no claim
     row weekdays caseTables 20230404 0 zeros (sent 1 1 2 0 0 0 200000 (tagLine 20230315) 34) 10
+    ∷  -- room for a fail claim and one interim claim of two
+    row weekdays interimTables 20231207 0 zeros (sent 1 1 2 0 0 0 100000 (tagLine 20230915) 104) 10
+    ∷  -- room for all three
+    row weekdays interimTables 20231207 0 zeros (sent 1 1 2 0 0 0 100000 (tagLine 20230915) 105) 0
+    ∷  -- room for one interim claim of two, without a tag
+    row weekdays interimTables 20231207 0 zeros (sent 1 1 2 0 0 0 100000 blank 69) 10
     ∷  -- no claims need no room
     row weekdays caseTables 20230404 0 zeros (sent 1 1 2 0 0 5 200000 (tagLine 20230315) 0) 0
     ∷  -- a close
@@ -251,6 +267,36 @@ history =
     sameNumbers (answered (r .answers)) expected && eqb (r .book .day) 20230404 && eqb (r .book .count) 4
     && sameNumbers (r .balances) (set zeros 18 25000)
 
+-- ---- interim claims
+
+-- without a tag; with one
+interimCalls : List Call
+interimCalls = sent 1 1 2 0 0 0 100000 blank 105 ∷ sent 1 1 2 0 0 0 100000 (tagLine 20230915) 105 ∷ []
+
+-- the entries of calls, the latest first
+entries : ℕ → List Call → List Entry
+entries day [] = []
+entries day (call ∷ calls) = entries day calls ++ (record { day = day; call = call } ∷ [])
+
+-- number and claim count of each answer
+counted : List Answer → List ℕ
+counted [] = []
+counted (a ∷ answers) = a .number ∷ a .claims ∷ counted answers
+
+-- from account 1 to account 2 in security 0
+senderToReceiver : Parties
+senderToReceiver = record { security = 0; payee = 2; payer = 1 }
+
+-- two interim claims, then a fail claim and two interim claims, are paid and owed, each row by its own
+interimHistory : Bool
+interimHistory =
+    let r = runFrom weekdays interimTables (opened weekdays interimTables sevens 20231207) interimCalls in
+    sameNumbers (counted (r .answers)) (0 ∷ 2 ∷ 0 ∷ 3 ∷ [])
+    && eqb (paid ofInterest (λ row. true) (recordsIn (r .answers)) senderToReceiver) 250000
+    && eqb (owed weekdays interimTables ofInterest (λ row. true) (entries 20231207 interimCalls) senderToReceiver) 250000
+    && eqb (owed weekdays interimTables ofInterest (eqb 0) (entries 20231207 interimCalls) senderToReceiver) 50000
+    && eqb (owed weekdays interimTables ofInterest (eqb 2) (entries 20231207 interimCalls) senderToReceiver) 100000
+
 -- ---- tables that change
 
 -- the next payment of the security, as its first row
@@ -274,11 +320,6 @@ laterAnswers =
 borrowerToLender : Parties
 borrowerToLender = record { security = 0; payee = 1; payer = 2 }
 
--- the entries of calls, the latest first
-entries : ℕ → List Call → List Entry
-entries day [] = []
-entries day (call ∷ calls) = entries day calls ++ (record { day = day; call = call } ∷ [])
-
 -- the later calls pay and owe the later coupon on the par of the loan before them, and not the earlier coupon again
 periods : Bool
 periods =
@@ -298,12 +339,16 @@ unfolding openedHistory tag line tagLine blank twoTags openTag badTag sent closi
 openedRows = 0
 
 rows-hold : openings && all (λ r. eqb (numberFor (r .calendar) (r .tables) (r .book) (r .balances) (r .call)) (r .number)) rows ≡ true
-unfolding openedRows held near lastTables lateTables rows opening openings
+unfolding openedRows held near lastTables lateTables interimTables rows opening openings
 rows-hold = refl
 
 history-holds : history ≡ true
 unfolding openedRows apartTables onSevens calls answered found expected sameNumbers history
 history-holds = refl
+
+interim-holds : interimHistory ≡ true
+unfolding openedRows interimTables interimCalls entries counted senderToReceiver sameNumbers interimHistory
+interim-holds = refl
 
 periods-hold : periods ≡ true
 unfolding openedRows apartTables laterTables onSevens firstCalls laterCalls answered found laterAnswers borrowerToLender entries sameNumbers periods

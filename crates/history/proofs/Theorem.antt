@@ -18,7 +18,7 @@ use Rattle.claims.specs.Fails.{messageTag, transferParties}
 use Rattle.claims.specs.Close.{crossed, closeClaims}
 use Rattle.claims.specs.Written.{readings, AllRead}
 use Rattle.claims.proofs.Crossed.{balance-word, rising-crossed}
-use Rattle.claims.proofs.Eligible.{rising-dues}
+use Rattle.claims.proofs.Dues.{rising-dues}
 use Rattle.claims.proofs.Written.{AllFit, readings-written, all-read, all-read-append, length-written, behind-written}
 use Rattle.claims.proofs.Sizes.{fit-transfer, fit-close}
 use Rattle.book.specs.declared.Book.{Book}
@@ -233,7 +233,9 @@ module _ (calendar tables : List ℕ) where
         row-payments = λ part x row. rw (f .answers) (paid-from part (eqb row) x day calls);
         payments = λ part x. rw (f .answers) (paid-from part (λ row. true) x day calls);
         crossed-once = λ row. passed calendar tables day row calls (started day) (passed-started calendar tables day row) .crossed-once;
-        dates-once = λ d tag h. rising-dues tables (t .day) d tag (sound-rows calendar tables (d .security) sound h .beneficiaries);
+        dates-once = λ d tag h.
+            let b = sound-rows calendar tables (d .security) sound h .beneficiaries in
+            rising-dues tables (t .day) d tag (λ row. row .beneficiaryDate) b b;
         rows-once = λ s h. rising-crossed calendar tables (t .day) s (sound-rows calendar tables s sound h .records);
         accepted = λ call. accepted-iff calendar tables (bookOf t) (balancesOf t) call;
         refused = λ call d. not-kept _ t call d;

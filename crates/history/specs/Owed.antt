@@ -8,7 +8,7 @@ use Rattle.records.specs.MessageRecords.{transferOf}
 use Rattle.securities.specs.Securities.{Row}
 use Rattle.tags.specs.ContractDateTag.{tagged}
 use Rattle.claims.specs.Amounts.{Part, amount, Parties}
-use Rattle.claims.specs.Fails.{messageTag, eligible}
+use Rattle.claims.specs.Fails.{messageTag, eligible, interim}
 use Rattle.claims.specs.Close.{crossed}
 use Rattle.history.specs.Calls.{Call, transfer, close}
 use Rattle.history.specs.Ledger.{Entry, parLent}
@@ -17,21 +17,27 @@ use Rattle.history.specs.Ledger.{Entry, parLent}
 unfoldable pub amounts : Part → (ℕ → Bool) → ℕ → List Row → ℕ
 amounts part rowTest par rows = sum (λ row. cond (rowTest (row .index)) (amount part par row) 0) rows
 
--- A failed transfer from the payer to the payee in the security: code 0 and a tag.
-unfoldable pub isFailed : List ℕ → Parties → Bool
-isFailed m x =
-    (eqb (transferOf m .code) 0 && tagged (messageTag m))
+-- A transfer with code 0 from the payer to the payee in the security.
+unfoldable pub isSent : List ℕ → Parties → Bool
+isSent m x =
+    eqb (transferOf m .code) 0
     && (eqb (transferOf m .security) (x .security) && eqb (transferOf m .receiver) (x .payee) && eqb (transferOf m .sender) (x .payer))
+
+-- A failed one: it has a tag.
+unfoldable pub isFailed : List ℕ → Parties → Bool
+isFailed m x = tagged (messageTag m) && isSent m x
 
 -- What the payee has lent the payer.
 unfoldable pub lentBy : List Entry → Parties → ℕ
 lentBy es x = parLent es (record { security = x .security; lender = x .payee; borrower = x .payer })
 
 -- What a call that was accepted on a day, after the entries before it, adds: a failed transfer its eligible dates on its own par, a
--- close the rows that it crosses on the par lent before it.
+-- transfer with code 0 its interim dates (document 02, card 1) on its own par, a close the rows that it crosses on the par lent before
+-- it.
 unfoldable pub owedBy : List ℕ → List ℕ → Part → (ℕ → Bool) → List Entry → ℕ → Call → Parties → ℕ
 owedBy calendar tables part rowTest before day (transfer a) x =
     cond (isFailed (a .message) x) (amounts part rowTest (transferOf (a .message) .par) (eligible tables day (transferOf (a .message)) (messageTag (a .message)))) 0
+    + cond (isSent (a .message) x) (amounts part rowTest (transferOf (a .message) .par) (interim tables day (transferOf (a .message)))) 0
 owedBy calendar tables part rowTest before day (close a) x =
     amounts part rowTest (lentBy before x) (crossed calendar tables day (x .security))
 
