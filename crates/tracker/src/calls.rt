@@ -20,7 +20,7 @@ pub extern "C" fn claim_tracker_open(
     opens::open(calendar, tables, balances, day)
 }
 
-// Works a transfer: posts its par, and writes its fail claims from the claim buffer's start. Refused, it returns the first number that
+// Works a transfer: posts its par, and writes its claims from the claim buffer's start. Refused, it returns the first number that
 // applies and the book given, and leaves balances and claim buffer.
 #[no_mangle]
 pub extern "C" fn claim_tracker_transfer(

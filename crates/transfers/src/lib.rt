@@ -1,5 +1,5 @@
-// The transfer call (document 01, sections Fail claims and Loans): a message is judged, its par is posted, and its fail claims are
-// written.
+// The transfer call (document 01, sections Fail claims and Loans; document 02, card 1): a message is judged, its par is posted, and its
+// claims are written.
 ghost use mathlib.Core.Path.{_≡_};
 ghost use mathlib.Core.Bool.{true, _||_};
 ghost use lib.Dec.{leb};
@@ -125,7 +125,7 @@ pub fn transfer_sound(
     transfer_read(calendar, tables, book, balances, message, claims, t)
 }
 
-// The transfer of any book: the first number that applies, or its par posted and its fail claims.
+// The transfer of any book: the first number that applies, or its par posted and its claims.
 pub fn transfer(
     calendar: &[u32],
     tables: &[u32],

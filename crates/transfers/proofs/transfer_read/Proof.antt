@@ -8,7 +8,7 @@ use Rattle.records.specs.declared.Transfer.{Transfer}
 use Rattle.records.proofs.Readings.{transfer-long, first-line-length, second-line-length}
 use Rattle.claims.specs.Passes.{free-count, free-store, passed-written}
 use Rattle.claims.specs.Written.{written}
-use Rattle.claims.specs.Reached.{Failing}
+use Rattle.claims.specs.Reached.{Claiming}
 use Rattle.claims.proofs.TableRows.{small-frequency}
 use Rattle.claims.proofs.Reached.{few-transfer}
 use Rattle.fails.specs.Recent.{recentClaims}
@@ -80,21 +80,21 @@ claims-on c =
 
 -- they are few
 few-on : (c : tie.After-recent-rows)
-    → length (recentClaims (c .before .before .before .before .before .before .before .before .before .before .before .before .before .args .calendar .now) (c .before .before .before .before .before .before .before .before .before .before .before .before .before .args .tables .now) (c .before .before .before .before .before .before .before .before .before .before .before .before .before .args .book .day) (c .before .before .before .before .before .before .before .before .before .before .before .before .before .args .book .count + 1) (c .before .before .before .before .before .before .before .before .before .before .before .before .before .args .t) (c .recent-rows .result)) ≤ 16
+    → length (recentClaims (c .before .before .before .before .before .before .before .before .before .before .before .before .before .args .calendar .now) (c .before .before .before .before .before .before .before .before .before .before .before .before .before .args .tables .now) (c .before .before .before .before .before .before .before .before .before .before .before .before .before .args .book .day) (c .before .before .before .before .before .before .before .before .before .before .before .before .before .args .book .count + 1) (c .before .before .before .before .before .before .before .before .before .before .before .before .before .args .t) (c .recent-rows .result)) ≤ 32
 few-on c =
     let a = c .before .before .before .before .before .before .before .before .before .before .before .before .before .args in
-    subst (λ (l : List Claim). length l ≤ 16) (claims-on c .claims) (few-transfer (a .calendar .now) (a .tables .now) (a .book .day) (a .book .count + 1) (a .t) (c .before .before .before .before .before .tag-of .result))
+    subst (λ (l : List Claim). length l ≤ 32) (claims-on c .claims) (few-transfer (a .calendar .now) (a .tables .now) (a .book .day) (a .book .count + 1) (a .t) (c .before .before .before .before .before .tag-of .result))
 
 -- what they ask is there
 asks-on : (c : tie.After-recent-rows)
-    → Failing (c .before .before .before .before .before .before .before .before .before .before .before .before .before .args .calendar .now) (c .before .before .before .before .before .before .before .before .before .before .before .before .before .args .tables .now) (c .before .before .before .before .before .before .before .before .before .before .before .before .before .args .t) (c .recent-rows .result .first + c .recent-rows .result .count)
+    → Claiming (c .before .before .before .before .before .before .before .before .before .before .before .before .before .args .calendar .now) (c .before .before .before .before .before .before .before .before .before .before .before .before .before .args .tables .now) (c .before .before .before .before .before .before .before .before .before .before .before .before .before .args .t) (c .recent-rows .result .end)
 asks-on c =
     let k = judged.sound-number _ _ _ _ (c .before .before .before .before .before .before .before .before .before .before .before .before .before .pre .0) .tables-sound in
     let f = passed _ _ _ _ _ (sym (c .before .before .before .own-number .ensures) ∙ c .before .before .if1 .left) .fields in
     claims-on c .asks (k .calendar-words) (k .table-words) (f .sender)
 
 transfer-claims-requires : tie.Need-transfer-claims-requires
-transfer-claims-requires c κs = (asks-on (c .before), free-count _ _ (omega (arith, few-on (c .before))))
+transfer-claims-requires c κs = (claims-on (c .before) .order, asks-on (c .before), free-count _ _ (omega (arith, few-on (c .before))))
 
 mul-if2 : tie.Need-mul-if2
 mul-if2 c = record { fits = omega (arith, c .before .before .transfer-claims .ensures .next, few-on (c .before .before .before .before)) }
@@ -130,6 +130,7 @@ post-requires c κs =
 
 transfer-claims-requires-2 : tie.Need-transfer-claims-requires-2
 transfer-claims-requires-2 c κs = (
+  claims-on (c .before .before .before .before .before .before .before .before .before .before) .order,
   asks-on (c .before .before .before .before .before .before .before .before .before .before),
   free-store _ _ (omega (arith, few-on (c .before .before .before .before .before .before .before .before .before .before))) (omega (arith, c .before .before .before .before .before .before .before .before .transfer-claims .ensures .next, c .before .before .before .before .before .if2 .left)),
 )
