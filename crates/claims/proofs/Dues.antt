@@ -93,7 +93,7 @@ module _ (tables : List ℕ) (day : ℕ) (t : Transfer) (tag : Tag) where
       (λ row h. eligible-words _ _ day rows row .0 (and-right (fails t tag) _ h) .1)
       (λ row h. interim-words _ day row .0 (and-right (eqb (t .code) 0) _ h) .2)
 
-  -- so what rises with the table's rows rises with the claimed ones: by Beneficiary Date none is claimed twice
+  -- so what rises with the table's rows rises with the claimed ones: the Beneficiary Date, so none is claimed twice; the row number
   pub rising-dues : (key : Row → ℕ) → rising beneficiary (filledRows tables (t .security)) ≡ true → rising key (filledRows tables (t .security)) ≡ true
       → rising key (map (λ d. d .row) (dues tables day t tag)) ≡ true
   rising-dues key e k = rw (dues-rows e) (rising-select key _ (filledRows tables (t .security)) k)

@@ -5,16 +5,16 @@ use mathlib.Core.List.{List, [], _∷_}
 use Prim.Native.Nat.{ℕ, zero, suc, _+_, _*_, _≤_, _<_}
 use native.Mathlib.Nat.{add-zero, zero-add, not-suc-le-zero}
 use native.Mathlib.Omega.{arith}
-use lib.Dec.{eqb, leb}
+use lib.Dec.{eqb, ltb, leb}
 use lib.ListN.{length, take, drop, getD}
 use lib.Seq.{drop-drop, getD-take, getD-drop}
-use borrow.Author.Tests.{leb-true, eqb-true}
+use borrow.Author.Tests.{leb-true, eqb-true, lt-ltb}
 use Rattle.lists.specs.Tests.{and-left, and-right, and-both, below-at}
 use Rattle.lists.specs.All.{all}
 use Rattle.lists.specs.Fields.{part, part-take}
-use Rattle.lists.specs.Select.{all-drop}
+use Rattle.lists.specs.Select.{rising, all-drop, rising-select}
 use Rattle.days.specs.Days.{lastOpen}
-use Rattle.securities.specs.Securities.{securityOf, typeOf, frequencyOf, Row, rowOf, rowsFrom, rowsOf, isEmpty, goodRows, goodSecurity, goodTables}
+use Rattle.securities.specs.Securities.{securityOf, typeOf, frequencyOf, Row, rowOf, rowsFrom, rowsOf, isEmpty, isFilled, filledRows, goodRows, goodSecurity, goodTables}
 use Rattle.claims.specs.Reached.{rowAt, dateAt}
 
 -- ---- a row in its place
@@ -73,6 +73,22 @@ date-word tables s i column h =
     go zero h = refl
     go (suc zero) h = refl
     go (suc (suc column)) h = absurd (omega arith)
+
+-- ---- the numbers of rows rise
+
+rows-above : (n i k : ℕ) (words : List ℕ) → k < i → all (λ (other : Row). ltb k (other .index)) (rowsFrom n i words) ≡ true
+unfolding rowsFrom all rowOf
+rows-above zero i k words h = refl
+rows-above (suc n) i k words h = and-both (lt-ltb k i h) (rows-above n (suc i) k (drop 7 words) (omega arith))
+
+rising-rows : (n i : ℕ) (words : List ℕ) → rising (λ row. row .index) (rowsFrom n i words) ≡ true
+unfolding rowsFrom rising rowOf
+rising-rows zero i words = refl
+rising-rows (suc n) i words = and-both (rows-above n (suc i) i (drop 7 words) (omega arith)) (rising-rows n (suc i) (drop 7 words))
+
+pub rising-numbers : (tables : List ℕ) (s : ℕ) → rising (λ row. row .index) (filledRows tables s) ≡ true
+unfolding filledRows rowsOf
+rising-numbers tables s = rising-select (λ (row : Row). row .index) isFilled _ (rising-rows 16 0 (drop 2 (securityOf tables s)))
 
 -- ---- unused securities
 

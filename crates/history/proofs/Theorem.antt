@@ -19,6 +19,7 @@ use Rattle.claims.specs.Close.{crossed, closeClaims}
 use Rattle.claims.specs.Written.{readings, AllRead}
 use Rattle.claims.proofs.Crossed.{balance-word, rising-crossed}
 use Rattle.claims.proofs.Dues.{rising-dues}
+use Rattle.claims.proofs.TableRows.{rising-numbers}
 use Rattle.claims.proofs.Written.{AllFit, readings-written, all-read, all-read-append, length-written, behind-written}
 use Rattle.claims.proofs.Sizes.{fit-transfer, fit-close}
 use Rattle.book.specs.declared.Book.{Book}
@@ -236,6 +237,9 @@ module _ (calendar tables : List ℕ) where
         dates-once = λ d tag h.
             let b = sound-rows calendar tables (d .security) sound h .beneficiaries in
             rising-dues tables (t .day) d tag (λ row. row .beneficiaryDate) b b;
+        row-order = λ d tag h.
+            rising-dues tables (t .day) d tag (λ row. row .index) (sound-rows calendar tables (d .security) sound h .beneficiaries)
+            (rising-numbers tables (d .security));
         rows-once = λ s h. rising-crossed calendar tables (t .day) s (sound-rows calendar tables s sound h .records);
         accepted = λ call. accepted-iff calendar tables (bookOf t) (balancesOf t) call;
         refused = λ call d. not-kept _ t call d;

@@ -4,8 +4,8 @@
 -- the ledger of accepted calls. For any two accounts and security the par lent and the accepted decreases together are the accepted
 -- increases. The records, read back from the claim buffers, add up, for every payer, payee, security and row, and for every payer,
 -- payee and security, to what the history owes, interest and principal apart. Every Record Date passed is crossed exactly once, no
--- transfer claims a Beneficiary Date twice, be it as failed or as interim, no close claims a row twice, and a call is refused exactly
--- when a cause of its table applies, and then changes nothing.
+-- transfer claims a Beneficiary Date twice, be it as failed or as interim, its claims come in row order, no close claims a row twice,
+-- and a call is refused exactly when a cause of its table applies, and then changes nothing.
 use mathlib.Core.Path.{_≡_}
 use mathlib.Core.Logic.{_↔_, _≢_}
 use mathlib.Core.Bool.{Bool, true, cond, _&&_}
@@ -127,6 +127,9 @@ pub record AgreesWithLedger (calendar tables : List ℕ) (start : ℕ) (calls : 
   -- The rows that the next transfer claims, failed or interim, rise in Beneficiary Date, so none is claimed twice.
   pub dates-once : (t : Transfer) (tag : Tag) → t .security < 16
       → rising (λ row. row .beneficiaryDate) (map (λ d. d .row) (dues tables (j .ledger .day) t tag)) ≡ true
+  -- They rise in row number too: a transfer's claims come in row order.
+  pub row-order : (t : Transfer) (tag : Tag) → t .security < 16
+      → rising (λ row. row .index) (map (λ d. d .row) (dues tables (j .ledger .day) t tag)) ≡ true
   -- The rows that the next close crosses rise in Record Date, so none is claimed twice in it.
   pub rows-once : (s : ℕ) → s < 16 → rising (λ row. row .recordDate) (crossed calendar tables (j .ledger .day) s) ≡ true
   -- The next call is accepted exactly when no cause of its table applies; refused, it leaves the ledger as it was.
