@@ -9,7 +9,7 @@ use Prim.Native.Nat.{ℕ, _≤_, _<_}
 use native.Mathlib.Omega.{arith}
 use lib.Dec.{eqb, leb}
 use borrow.Author.Tests.{ltb-true, leb-true, lt-ltb, le-leb}
-use Rattle.lists.specs.Tests.{and-left, and-right, and-both}
+use Rattle.lists.specs.Tests.{and-left, and-right}
 use Rattle.lists.specs.All.{all-each}
 use Rattle.lists.specs.Select.{select, rising, select-none, select-halves, rising-select}
 use Rattle.records.specs.declared.Transfer.{Transfer}
@@ -18,7 +18,7 @@ use Rattle.securities.proofs.Sound.{good-row}
 use Rattle.tags.specs.declared.Tag.{Tag}
 use Rattle.tags.specs.ContractDateTag.{contractDate}
 use Rattle.claims.specs.Amounts.{failType, interimType}
-use Rattle.claims.specs.Fails.{maximumNumbers, isMbs, maximumFor, eligibleIn, eligible, isInterim, interimIn, interim, Due, due, fails, dues}
+use Rattle.claims.specs.Fails.{maximumNumbers, isMbs, maximumFor, eligible, isInterim, interimIn, interim, Due, due, fails, dues}
 use Rattle.claims.proofs.Eligible.{beneficiary, isEligible, eligible-words, eligible-is}
 
 -- ---- a test of all rows, and one of each

@@ -1,7 +1,7 @@
 -- Interim claims worked out, as rows that compute: each claim's fields written out. The first table is that of the interim examples of
 -- source document 001 (Clearing Memo 278), Attachment II.
 use mathlib.Core.Path.{_≡_, refl}
-use mathlib.Core.Bool.{true, _&&_}
+use mathlib.Core.Bool.{true}
 use mathlib.Core.List.{List, [], _∷_, _++_}
 use Prim.Native.Nat.{ℕ}
 use lib.ListN.{replicate}
@@ -56,7 +56,7 @@ oneRowTransfers =
 
 -- security 0: MBS, its first Beneficiary Date reached on 20231207, its second and third between; security 1: MBS, a Record Date behind its
 -- Beneficiary Date
-threeRows : List ℕ
+unfoldable pub threeRows : List ℕ
 threeRows =
     ((3 ∷ 1
     ∷ 20231001 ∷ 20231001 ∷ 20231025 ∷ 5000000 ∷ 0 ∷ 0 ∷ 0

@@ -11,6 +11,7 @@ use Rattle.lists.specs.All.{all}
 use Rattle.days.specs.Weekdays.{weekdays}
 use Rattle.securities.specs.Cases.{caseTables}
 use Rattle.claims.specs.Amounts.{ofInterest, Parties}
+use Rattle.claims.proofs.InterimRows.{threeRows}
 use Rattle.book.specs.declared.Book.{Book}
 use Rattle.history.specs.Calls.{Call, transfer, close}
 use Rattle.history.specs.Causes.{numberFor}
@@ -81,14 +82,6 @@ lastTables = replicate 1710 0 ++ ((1 ∷ 4 ∷ 20230401 ∷ 20230401 ∷ 2023041
 -- a Record Date on the last open day
 lateTables : List ℕ
 lateTables = (3 ∷ 1 ∷ 20391230 ∷ 20391230 ∷ 20391230 ∷ 5000000 ∷ []) ++ replicate 1818 0
-
--- on 20231207 the first Beneficiary Date is reached, and of the second and third rows the Record Dates
-interimTables : List ℕ
-interimTables =
-    (3 ∷ 1
-    ∷ 20231001 ∷ 20231001 ∷ 20231025 ∷ 5000000 ∷ 0 ∷ 0 ∷ 0
-    ∷ 20231101 ∷ 20231215 ∷ 20231220 ∷ 5000000 ∷ 0 ∷ 0 ∷ 0
-    ∷ 20231201 ∷ 20240115 ∷ 20240122 ∷ 5000000 ∷ 0 ∷ 0 ∷ 0 ∷ []) ++ replicate 1801 0
 
 record CauseRow : Type 0 where
   calendar : List ℕ
@@ -172,11 +165,11 @@ rows =
     ∷  -- room for no claim
     row weekdays caseTables 20230404 0 zeros (sent 1 1 2 0 0 0 200000 (tagLine 20230315) 34) 10
     ∷  -- room for a fail claim and one interim claim of two
-    row weekdays interimTables 20231207 0 zeros (sent 1 1 2 0 0 0 100000 (tagLine 20230915) 104) 10
+    row weekdays threeRows 20231207 0 zeros (sent 1 1 2 0 0 0 100000 (tagLine 20230915) 104) 10
     ∷  -- room for all three
-    row weekdays interimTables 20231207 0 zeros (sent 1 1 2 0 0 0 100000 (tagLine 20230915) 105) 0
+    row weekdays threeRows 20231207 0 zeros (sent 1 1 2 0 0 0 100000 (tagLine 20230915) 105) 0
     ∷  -- room for one interim claim of two, without a tag
-    row weekdays interimTables 20231207 0 zeros (sent 1 1 2 0 0 0 100000 blank 69) 10
+    row weekdays threeRows 20231207 0 zeros (sent 1 1 2 0 0 0 100000 blank 69) 10
     ∷  -- no claims need no room
     row weekdays caseTables 20230404 0 zeros (sent 1 1 2 0 0 5 200000 (tagLine 20230315) 0) 0
     ∷  -- a close
@@ -290,12 +283,12 @@ senderToReceiver = record { security = 0; payee = 2; payer = 1 }
 -- two interim claims, then a fail claim and two interim claims, are paid and owed, each row by its own
 interimHistory : Bool
 interimHistory =
-    let r = runFrom weekdays interimTables (opened weekdays interimTables sevens 20231207) interimCalls in
+    let r = runFrom weekdays threeRows (opened weekdays threeRows sevens 20231207) interimCalls in
     sameNumbers (counted (r .answers)) (0 ∷ 2 ∷ 0 ∷ 3 ∷ [])
     && eqb (paid ofInterest (λ row. true) (recordsIn (r .answers)) senderToReceiver) 250000
-    && eqb (owed weekdays interimTables ofInterest (λ row. true) (entries 20231207 interimCalls) senderToReceiver) 250000
-    && eqb (owed weekdays interimTables ofInterest (eqb 0) (entries 20231207 interimCalls) senderToReceiver) 50000
-    && eqb (owed weekdays interimTables ofInterest (eqb 2) (entries 20231207 interimCalls) senderToReceiver) 100000
+    && eqb (owed weekdays threeRows ofInterest (λ row. true) (entries 20231207 interimCalls) senderToReceiver) 250000
+    && eqb (owed weekdays threeRows ofInterest (eqb 0) (entries 20231207 interimCalls) senderToReceiver) 50000
+    && eqb (owed weekdays threeRows ofInterest (eqb 2) (entries 20231207 interimCalls) senderToReceiver) 100000
 
 -- ---- tables that change
 
@@ -339,7 +332,7 @@ unfolding openedHistory tag line tagLine blank twoTags openTag badTag sent closi
 openedRows = 0
 
 rows-hold : openings && all (λ r. eqb (numberFor (r .calendar) (r .tables) (r .book) (r .balances) (r .call)) (r .number)) rows ≡ true
-unfolding openedRows held near lastTables lateTables interimTables rows opening openings
+unfolding openedRows held near lastTables lateTables threeRows rows opening openings
 rows-hold = refl
 
 history-holds : history ≡ true
@@ -347,7 +340,7 @@ unfolding openedRows apartTables onSevens calls answered found expected sameNumb
 history-holds = refl
 
 interim-holds : interimHistory ≡ true
-unfolding openedRows interimTables interimCalls entries counted senderToReceiver sameNumbers interimHistory
+unfolding openedRows threeRows interimCalls entries counted senderToReceiver sameNumbers interimHistory
 interim-holds = refl
 
 periods-hold : periods ≡ true
