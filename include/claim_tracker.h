@@ -1,4 +1,4 @@
-/* The claim tracker: fails and loaned securities of one book of 16 accounts and 16 securities, each numbered from 0 to 15.
+/* The claim tracker: fails, interim claims and loaned securities of one book of 16 accounts and 16 securities, each numbered from 0 to 15.
 
    Link with -lclaim_tracker (x86-64 Linux). FORMATS.md among the documents says the same at more length.
 
@@ -32,10 +32,10 @@
 
    The Contract Date of a transfer stands in one of its two lines, anywhere, wholly within the line: {98A:CNTR/20230315} for 15 March 2023.
 
-   Buffers of claims: a transfer gives at most 7 claims, a close at most 61,440; CLAIM_TRACKER_CLAIM_ROOM(n) is the size for n. A call
-   whose claims do not fit is refused with 10 and has changed nothing: call again with a larger buffer. claim_tracker_serve, and with it
-   the program claimrun, has 64 KiB for the claims of each record: a close with more than 1,872 is answered with 10, the day stays, and
-   claim_tracker_close with a larger buffer can work it.
+   Buffers of claims: a transfer gives at most 16 claims, one for each row of its security, a close at most 61,440;
+   CLAIM_TRACKER_CLAIM_ROOM(n) is the size for n. A call whose claims do not fit is refused with 10 and has changed nothing: call again with
+   a larger buffer. claim_tracker_serve, and with it the program claimrun, has 64 KiB for the claims of each record: a close with more than
+   1,872 is answered with 10, the day stays, and claim_tracker_close with a larger buffer can work it.
 
    Pointers: a count that follows a pointer is that of its elements. No pointer may be null (with a count of 0 it may point anywhere
    else), each is aligned for its type, and what a function writes to may not overlap anything else that it is given. Within this, every
@@ -52,9 +52,9 @@
 #include <stdint.h>
 
 #define CLAIM_TRACKER_VERSION_MAJOR 1
-#define CLAIM_TRACKER_VERSION_MINOR 0
+#define CLAIM_TRACKER_VERSION_MINOR 1
 #define CLAIM_TRACKER_VERSION_PATCH 0
-#define CLAIM_TRACKER_VERSION "1.0.0"
+#define CLAIM_TRACKER_VERSION "1.1.0"
 
 /* Every function answers a number that a caller has to look at, and takes no null pointer; compilers that can, watch over both. */
 #if defined(__GNUC__)
@@ -104,7 +104,7 @@ enum {
 
 /* The most claims of one call, and the bytes for n claims. */
 enum {
-    CLAIM_TRACKER_MOST_TRANSFER_CLAIMS = 7,
+    CLAIM_TRACKER_MOST_TRANSFER_CLAIMS = 16,
     CLAIM_TRACKER_MOST_CLOSE_CLAIMS = 61440
 };
 #define CLAIM_TRACKER_CLAIM_ROOM(n) ((size_t)CLAIM_TRACKER_CLAIM_BYTES * (size_t)(n))
@@ -147,8 +147,9 @@ enum claim_tracker_class {
     CLAIM_TRACKER_CLASS_OTHER = 1
 };
 
-/* The tracking code of a transfer. A transfer without one that has a Contract Date may give fail claims. SLST, CLSR and ADSL add par to
-   what the sender has lent the receiver; SLRV, CLSL and ADSR take par from what the receiver has lent the sender. */
+/* The tracking code of a transfer. A transfer without one may give interim claims and, where it has a Contract Date, fail claims. SLST,
+   CLSR and ADSL add par to what the sender has lent the receiver; SLRV, CLSL and ADSR take par from what the receiver has lent the
+   sender. */
 enum claim_tracker_code {
     CLAIM_TRACKER_CODE_NONE = 0,
     CLAIM_TRACKER_CODE_SLST = 1,                /* a loan's start */
@@ -159,9 +160,12 @@ enum claim_tracker_code {
     CLAIM_TRACKER_CODE_ADSR = 6                 /* the balance alone, down */
 };
 
-/* The type of a claim. */
+/* The type of a claim. A transfer without a tracking code in an MBS (types 3 and 4), with a Contract Date or without, gives an interim
+   claim for each row whose Record Date is not after the book's day and whose Beneficiary Date is; amounts and release are those of a
+   fail. */
 enum claim_tracker_claim_type {
     CLAIM_TRACKER_CLAIM_TYPE_FAIL = 1,
+    CLAIM_TRACKER_CLAIM_TYPE_INTERIM = 2,
     CLAIM_TRACKER_CLAIM_TYPE_LENDING = 3
 };
 
@@ -326,8 +330,9 @@ CLAIM_TRACKER_CALL CLAIM_TRACKER_NONNULL
 struct claim_tracker_done claim_tracker_open(const uint32_t *calendar, size_t calendar_words, const uint32_t *tables, size_t table_words,
                                              uint64_t *balances, size_t balance_words, uint32_t day);
 
-/* Works the transfer at the message's start: posts its par, counts it and writes its fail claims from the claim buffer's start; the bytes
-   behind them stay. Refused: the number, the book given, no claims, and balances and claim buffer as they were. */
+/* Works the transfer at the message's start: posts its par, counts it and writes its fail claims and then its interim claims from the claim
+   buffer's start; the bytes behind them stay. Refused: the number, the book given, no claims, and balances and claim buffer as they
+   were. */
 CLAIM_TRACKER_CALL CLAIM_TRACKER_NONNULL
 struct claim_tracker_done claim_tracker_transfer(const uint32_t *calendar, size_t calendar_words, const uint32_t *tables,
                                                  size_t table_words, struct claim_tracker_book book, uint64_t *balances,

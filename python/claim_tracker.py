@@ -14,7 +14,7 @@ from dataclasses import dataclass
 from enum import IntEnum
 from typing import NamedTuple
 
-__version__ = "1.0.0"
+__version__ = "1.1.0"
 
 ACCOUNTS = 16
 SECURITIES = 16
@@ -31,7 +31,7 @@ ANSWER_BYTES = 6
 LINE_BYTES = 64
 BOOK_FILE_BYTES = 9220
 RECORD_ROOM = 65542
-MOST_TRANSFER_CLAIMS = 7
+MOST_TRANSFER_CLAIMS = 16
 MOST_CLOSE_CLAIMS = 61440
 
 
@@ -86,6 +86,7 @@ class Code(IntEnum):
 class ClaimType(IntEnum):
     """The type of a claim."""
     FAIL = 1
+    INTERIM = 2
     LENDING = 3
 
 
@@ -430,7 +431,7 @@ def _on_own_book(name, calendar, tables, book, *arguments):
 
 
 def transfer(calendar, tables, book, balances, message, claims):
-    """Works a transfer: posts its par and writes its fail claims from the start of claims. The book given is not changed."""
+    """Works a transfer: posts its par and writes its fail and interim claims from the start of claims. The book given is not changed."""
     return _by_value("transfer", calendar, tables, book, balances, message, claims)
 
 

@@ -59,7 +59,11 @@ fn compare_calls(random: &mut Random, tally: &mut Tally) -> Result<(), String> {
         };
         *tally.entry((name, library.number)).or_default() += 1;
         for claim in our_claims.chunks_exact(35).take(library.claims) {
-            let name = if claim[4] == 1 { "fail claim, outcome" } else { "lending claim, outcome" };
+            let name = match claim[4] {
+                1 => "fail claim, outcome",
+                2 => "interim claim, outcome",
+                _ => "lending claim, outcome",
+            };
             *tally.entry((name, claim[5] as u16)).or_default() += 1;
         }
         same("the answer", &library, &rust)?;

@@ -1,6 +1,6 @@
 /* Replays document 01's hex example through the exported functions: the book opened on 20230404 with the cases' tables, the first
-   case's transfer from account 1 to 2, and all bytes that come out. Then the codecs both ways, a close, refusals, and both calls on the
-   caller's own book. */
+   case's transfer from account 1 to 2, and all bytes that come out. Then the codecs both ways, an interim claim, a close, refusals, and
+   both calls on the caller's own book. */
 #include <stdio.h>
 #include <string.h>
 
@@ -135,9 +135,22 @@ int main(void) {
                                  CLAIM_TRACKER_RECORD_ROOM - 1);
     check("and one that has no room at all", served.consumed == 0 && served.written == 0 && !served.over && served.full);
 
+    memset(first, ' ', sizeof first);
+    tables[9] = 20230403;
+    book = claim_tracker_open(calendar, 480, tables, 1824, balances, 4096, 20230404).book;
+    check("a transfer without a tag is written", claim_tracker_write_transfer(message, sizeof message, fields, first, second) == 0);
+    done = claim_tracker_transfer(calendar, 480, tables, 1824, book, balances, 4096, message, sizeof message, out, sizeof out);
+    claim = claim_tracker_read_claim(out, sizeof out);
+    check("May's payment behind its Record Date", done.number == 0 && done.claims == 1 && claim.number == 0
+                                                      && claim.claim.claim_type == CLAIM_TRACKER_CLAIM_TYPE_INTERIM
+                                                      && claim.claim.outcome == 0 && claim.claim.payer == 1 && claim.claim.payee == 2
+                                                      && claim.claim.row == 1 && claim.claim.transfer == 1
+                                                      && claim.claim.interest == 100000 && claim.claim.release == 20230515
+                                                      && claim.claim.slot == 3);
+    case_tables();
+
     fields.code = 1;
     fields.par = 15000;
-    memset(first, ' ', sizeof first);
     check("a loan is written", claim_tracker_write_transfer(message, sizeof message, fields, first, second) == 0);
     done = claim_tracker_open(calendar, 480, tables, 1824, balances, 4096, 20230331);
     done = claim_tracker_transfer(calendar, 480, tables, 1824, done.book, balances, 4096, message, sizeof message, out, 0);

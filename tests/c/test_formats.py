@@ -84,6 +84,10 @@ class Formats(unittest.TestCase):
 
     def test_sizes(self):
         sizes = declarations.enumerators()[""]
+        most = sizes["CLAIM_TRACKER_MOST_TRANSFER_CLAIMS"]
+        self.assertIn("gives at most %d claims: %d bytes" % (most, 35 * most), TEXT)
+        for document in (("include", "claim_tracker.h"), ("docs", "man", "claim_tracker.3")):
+            self.assertRegex(building.content(*document), "(?i)a transfer gives at most %d claims" % most)
         for word in (sizes["CLAIM_TRACKER_MOST_CLOSE_CLAIMS"], 35 * sizes["CLAIM_TRACKER_MOST_CLOSE_CLAIMS"], 65536 // 35,
                      sizes["CLAIM_TRACKER_RECORD_ROOM"], sizes["CLAIM_TRACKER_BOOK_FILE_BYTES"], sizes["CLAIM_TRACKER_TABLE_WORDS"]):
             self.assertIn(format(word, ","), TEXT)

@@ -28,7 +28,7 @@ os.environ.pop("CLAIM_TRACKER_LIBRARY", None)
 sys.path.insert(0, PYTHON)
 import calling  # noqa: E402
 import claim_tracker  # noqa: E402
-from claim_tracker import Book, Claim, Number, Transfer  # noqa: E402
+from claim_tracker import Book, Claim, ClaimType, Number, Transfer  # noqa: E402
 
 CALENDAR, TABLES, DAY = claim_tracker.read_book_file(common.BOOK)
 TAG = "{98A:CNTR/%d}"
@@ -47,7 +47,7 @@ def book_lines():
     tables = TABLES[:]
     tables[114:114 + 9] = array("I", [1, 3, 20230331, 20230331, 20230403, 22500000, 0, 0, 1 << 5])
     tables[228:228 + 16] = array("I", [4, 2, 20230401, 20230402, 20230403, 7, 1000000000, 0, 0,
-                                       20230404, 20230404, 20230405, 0, 1000000000, 1, 0])
+                                       20230403, 20230404, 20230405, 0, 1000000000, 1, 0])
     lines = ["calendar %d %d" % pair for pair in enumerate(CALENDAR)]
     return lines + ["tables %d %d" % pair for pair in enumerate(tables) if pair[1]]
 
@@ -124,12 +124,14 @@ class AgainstC(building.Library):
         return by_c
 
     def test_random_calls(self):
-        """Claims of both types and most numbers occur among them."""
+        """Claims of each type and most numbers occur among them."""
         found = self.same(random_calls(800, 7))
         numbers = {int(line.split()[1]) for line in found}
         self.assertGreaterEqual(numbers, {0, 5, 6, 7, 10, 132, 133, 135, 138, 139})
         for name, least in (("transfer", 200), ("close", 5)):
             self.assertGreater(sum(int(line.split()[3]) for line in found if line.startswith(name)), least)
+        for kind in ClaimType:
+            self.assertTrue(any("21000300%02x" % kind in line for line in found), kind)
         for words in (" over 1 ", " over 0 full 0 ", " over 0 full 1 ", " written 0 over 0 full 1 "):
             self.assertTrue(any(words in line for line in found), words)
 
@@ -229,11 +231,23 @@ class Largest(unittest.TestCase):
         self.assertEqual(self.close(room - 1), (Number.NO_ROOM, self.book, 0))
         self.assertEqual(self.close(room), (0, Book(self.DAYS[1]), claim_tracker.MOST_CLOSE_CLAIMS))
 
+    def transfer(self, book, room):
+        """What a transfer answers, and the types of its claims."""
+        claims, message = bytearray(room), bytes.fromhex(transfer_hex(1, 2, 0, 0, 0, 5, TAG % 20230131))
+        done = claim_tracker.transfer(self.calendar, self.tables, book, self.balances, message, claims)
+        return done, [claim_tracker.read_claim(claims[35 * at:]).claim.claim_type for at in range(done.claims)]
+
     def test_transfer(self):
-        book = Book(self.DAYS[1])
-        for room, answer in ((244, (Number.NO_ROOM, book, 0)), (245, (0, Book(book.day, 1), 7))):
-            message = bytes.fromhex(transfer_hex(1, 2, 0, 0, 0, 5, TAG % 20000101))
-            self.assertEqual(claim_tracker.transfer(self.calendar, self.tables, book, self.balances, message, bytearray(room)), answer)
+        """Each of 16 rows gives a claim: all Record Dates are before the day, seven Beneficiary Dates too and nine behind it."""
+        book, last = Book(self.DAYS[1]), 20230320
+        self.calendar[278] |= 1 << last % 100 - 1
+        for at in range(16):
+            later = [20230201 + at, book.day] if at < 7 else [20230303 + at, last]
+            self.tables[3 + 7 * at:5 + 7 * at] = array("I", later)
+        room = claim_tracker.claim_room(claim_tracker.MOST_TRANSFER_CLAIMS)
+        self.assertEqual(room, 560)
+        self.assertEqual(self.transfer(book, room - 1), ((Number.NO_ROOM, book, 0), []))
+        self.assertEqual(self.transfer(book, room), ((0, Book(book.day, 1), 16), [ClaimType.FAIL] * 7 + [ClaimType.INTERIM] * 9))
 
     def test_stream(self):
         """1,872 claims of a close fit a stream. A close with more gets 10 and the day stays; one call by value works it, and the stream

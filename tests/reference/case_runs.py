@@ -1,11 +1,12 @@
-"""Document 01's cases that no theorem states, its mistakes to rule out, and the fail and lending examples of source document 001
-(Clearing Memo 278), Attachment II, by the reference.
+"""Document 01's cases that no theorem states, its mistakes to rule out, the fail, interim and lending examples of source document 001
+(Clearing Memo 278), Attachment II, and the edges of the rule of interim claims, by the reference.
 
     python3 case_runs.py REFERENCE_FOLDER STEPS_FILE
 
 writes the calls to STEPS_FILE (crates/case_runs/data/case_runs.in) and prints what the program case_runs has to write for them
-(crates/case_runs/stdout). Years and factors of the memo's examples are those of the reference's cases.py. Each run is made by the
-reference's tally and its direct calls side by side.
+(crates/case_runs/stdout). Years and factors of the memo's fail and lending examples are those of the reference's cases.py; the interim
+examples are in 2026, where both Settlement Dates, 7 and 17 December, are open days. Each run is made by the reference's tally and its
+direct calls side by side.
 
 Under a call stand its claims and the balances that are not zero: 'lent' for a loan and 'repo' for a repo, each with security, lender,
 borrower and par, loans first.
@@ -29,8 +30,11 @@ class Run:
         self.name = name
         self.both = cards.Both(step_files.CARDS)
         steps.set_tables(calendar, tables)
-        self.both.open(calendar, tables, day)
-        self.show("opening", steps.open(name + "-opening", day))
+        self.open("opening", day)
+
+    def open(self, name, day):
+        self.both.open(steps.calendar, steps.tables, day)
+        self.show(name, steps.open("%s-%s" % (self.name, name), day))
 
     def show(self, name, result):
         print("%s-%s" % (self.name, name), result.number, *result.book, result.claims)
@@ -45,10 +49,10 @@ class Run:
         self.both.check_owed()
         self.show(name, result)
 
-    def transfer(self, name, *fields, **more):
+    def transfer(self, name, *fields, room=ROOM, **more):
         message = mk.transfer(*fields, **more)
-        tallied = self.both.transfer(steps.calendar, steps.tables, message, step_files.pattern(ROOM))
-        self.made(name, steps.transfer("%s-%s" % (self.name, name), message, ROOM), tallied)
+        tallied = self.both.transfer(steps.calendar, steps.tables, message, step_files.pattern(room))
+        self.made(name, steps.transfer("%s-%s" % (self.name, name), message, room), tallied)
 
     def close(self, name):
         tallied = self.both.close(steps.calendar, steps.tables, mk.close(), step_files.pattern(ROOM))
@@ -109,6 +113,54 @@ def memo_fails():
         run.transfer("transfer", sender, receiver, 0, par, contract=contract)
 
 
+def december(year):
+    """The row of the memo's interim examples."""
+    first = 10000 * year + 1201
+    return ref.Row(first, first + 14, first + 14, 5_000_000, 0, 0, 0)
+
+
+def memo_interim():
+    """Interim accounting tracking, examples 1 and 2."""
+    for name, settlement, par in (("1", 20261217, 200_000), ("2", 20261207, 75_000)):
+        run = Run("interim-example-" + name, settlement, mk.tables_of({0: mk.security(3, 1, [december(2026)])}))
+        run.transfer("transfer", X, Y, 0, par)
+
+
+def interim():
+    """Types, outcomes, classes and codes between a Record Date and a Beneficiary Date, several rows at once, and the days around them."""
+    row = december(2023)
+    final, masked, nothing, several, beneficiary_first = range(5, 10)
+    tables = mk.tables_of({kind: mk.security(kind, 1, [row]) for kind in (1, 2, 3, 4)} | {s: mk.security(3, 1, rows) for s, rows in (
+        (final, [row._replace(final=1)]),
+        (masked, [row._replace(mask=1 << X)]),
+        (nothing, [row._replace(interest_factor=0)]),
+        (several, [row._replace(record=record, beneficiary=beneficiary, payment=payment) for record, beneficiary, payment in (
+            (20231001, 20231001, 20231025), (20231101, 20231215, 20231220), (20231201, 20240115, 20240122))]),
+        (beneficiary_first, [row._replace(record=20231215, beneficiary=20231201, payment=20231220)]))})
+    run = Run("interim", 20231207, tables)
+    for name, sender, receiver, security, more in (
+            ("type-1", X, Y, 1, {}),
+            ("type-2", X, Y, 2, {}),
+            ("type-3", X, Y, 3, {}),
+            ("type-4", X, Y, 4, {}),
+            ("final", X, Y, final, {}),
+            ("payer-masked", X, Y, masked, {}),
+            ("payee-masked", Y, X, masked, {}),
+            ("zero-amounts", X, Y, nothing, {}),
+            ("several-rows", X, Y, several, {}),
+            ("behind-a-fail", X, Y, several, {"contract": 20230915}),
+            ("behind-a-fail-one-byte-short", X, Y, several, {"contract": 20230915, "room": 104}),
+            ("behind-a-fail-exact-room", X, Y, several, {"contract": 20230915, "room": 105}),
+            ("class-1", X, Y, 3, {"contract": 20231207, "klass": 1}),
+            ("refused", X, Y, 3, {"contract": 20231206, "klass": 1}),
+            ("code-1", X, Y, 3, {"code": 1})):
+        run.transfer(name, sender, receiver, security, 100_000 if security == several else 75_000, **more)
+    for day in (20231130, 20231201, 20231207, 20231214, 20231215, 20231218):
+        run.open("opening-%d" % day, day)
+        run.transfer("%d" % day, X, Y, 3, 75_000)
+        run.transfer("%d-beneficiary-date-before-record-date" % day, X, Y, beneficiary_first, 75_000)
+
+
 def memo_lending():
     """Securities lending tracking, examples 1 to 3, each on what the last one left."""
     rows = cases.monthly(2024, (1, 2, 3))
@@ -130,5 +182,7 @@ def memo_lending():
 document_cases()
 mistakes()
 memo_fails()
+memo_interim()
+interim()
 memo_lending()
 steps.write(sys.argv[2])

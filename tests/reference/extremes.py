@@ -136,7 +136,18 @@ def every_row():
     close("close-to-the-end-no-buffer", 0)
 
 
+def most_claims():
+    """All sixteen rows of a security claimed by one transfer: by interim claims alone, then by seven fail claims too, then one row less."""
+    rows = [ref.Row(20240101 + r, 20240201 + r, 20240201 + r, FACTOR - r, r, 0, 0) for r in range(16)]
+    steps.set_tables(mk.weekdays(), mk.tables_of({15: mk.security(4, 1, rows)}))
+    for name, day in (("no-row-reached", 20240116), ("seven-rows-reached", 20240207), ("eight-rows-reached", 20240208)):
+        steps.set_book(day, 0, balances_of())
+        for room in (559, 560):
+            transfer("%s-%d-bytes" % (name, room), room, 0, 15, 15, 100_000_000, contract=20240101)
+
+
 largest_amounts()
 last_days()
 every_row()
+most_claims()
 steps.write(sys.argv[2])

@@ -4,10 +4,10 @@
 
 makes random calls by the reference's make_calls.py and writes COUNT of them to FOLDER/calls.in, with what they should give in
 FOLDER/calls.expected (the format is that of make_calls.py; crates/call_files/src/entries.rt reads it). It takes first the calls that show
-an answer, a claim type, an outcome or a slot that no call before them shows, then those that show an answer to another kind of call, a
-combination of claim type, outcome and slot, or a part of wrong length that none before them shows, then others in their order, those with
-claims first; none with a large claim buffer. It prints what the calls cover, and fails where an answer, a claim type, an outcome or a slot
-of the cards in force is missing.
+an answer, a claim type, an outcome, a slot or two claim types together that no call before them shows, then those that show an answer to
+another kind of call, a combination of claim type, outcome and slot, or a part of wrong length that none before them shows, then others in
+their order, those with claims first; none with a large claim buffer. It prints what the calls cover, and fails where an answer, a claim
+type, an outcome, a slot or two claim types together of the cards in force are missing.
 """
 import collections
 import os
@@ -35,19 +35,13 @@ def wrong_lengths(call) -> set:
 
 def shown(call, result) -> set:
     """What a call shows."""
-    facts = {("answer", CALLS[call["kind"]], result.number)} | wrong_lengths(call)
-    for claim in ref.read_claims(result.buffer, result.claims):
-        facts.add(("claim", claim.claim_type, claim.outcome, claim.slot))
+    claims = [(claim.claim_type, claim.outcome, claim.slot) for claim in ref.read_claims(result.buffer, result.claims)]
+    facts = {("answer", CALLS[call["kind"]], result.number)} | wrong_lengths(call) | step_files.claim_facts(claims)
     if call["kind"] in TRANSFERS and result.number == 0:
         facts.add(("code", ref.read_record(ref.TRANSFER, call["message"])[1].code))
     if result.claims:
         facts.add(("buffer", CALLS[call["kind"]], min(2, len(result.buffer) - 35 * result.claims)))
     return facts
-
-
-def asked(facts) -> set:
-    """What the check at the end asks for, among what calls show."""
-    return step_files.parts_of((fact[2] for fact in facts if fact[0] == "answer"), (fact[1:] for fact in facts if fact[0] == "claim"))
 
 
 def picked() -> list:
@@ -59,7 +53,7 @@ def picked() -> list:
             continue
         result = make_calls.run(call)
         facts = shown(call, result)
-        rank = (asked(facts) <= asked(seen)) + (facts <= seen)
+        rank = (step_files.parts_of(facts) <= step_files.parts_of(seen)) + (facts <= seen)
         ranked.append((rank, rank == 2 and not result.claims, i, call, result, facts))
         seen |= facts
     ranked.sort(key=lambda entry: entry[:3])
@@ -75,6 +69,6 @@ with open(os.path.join(out, "calls.expected"), "wb") as file:
 covered = collections.Counter(fact for _, _, _, facts in calls for fact in facts)
 for fact, times in sorted(covered.items(), key=str):
     print(times, *fact)
-missing = sorted(step_files.wanted(NUMBERS) - asked(covered))
+missing = sorted(step_files.wanted(NUMBERS) - step_files.parts_of(covered), key=str)
 print("missing:", *(missing or ["nothing"]))
 sys.exit(1 if missing else 0)

@@ -4,8 +4,9 @@
 
 makes random streams by the reference's make_vectors.py and writes COUNT of them to FOLDER/streams.in: for each the bytes of book.dat (none
 where it is missing), the input, and all that claimrun writes, each behind its length of four bytes. It takes first the streams that show
-an answer or a combination of claim type, outcome and slot that no stream before them shows, then the smallest others. It prints what the
-streams cover, and fails where a claim type, an outcome, a slot or an answer that a stream can get is missing.
+an answer, a combination of claim type, outcome and slot, or two claim types together that no stream before them shows, then the smallest
+others. It prints what the streams cover, and fails where a claim type, an outcome, a slot, two claim types together or an answer that a
+stream can get are missing.
 """
 import os
 import struct
@@ -32,19 +33,6 @@ def content(*names) -> bytes:
         return file.read()
 
 
-def shown(expected: bytes) -> set:
-    """The answers and the kinds of claims among the records written."""
-    facts, at = set(), 0
-    while at < len(expected):
-        following, kind = struct.unpack_from("<HH", expected, at)
-        if kind == 3:
-            facts.add(("claim", expected[at + 4], expected[at + 5], expected[at + 34]))
-        else:
-            facts.add(("answer", struct.unpack_from("<H", expected, at + 4)[0]))
-        at += 2 + following
-    return facts
-
-
 with tempfile.TemporaryDirectory() as made:
     subprocess.run([sys.executable, "-B", os.path.join(folder, "vectors", "make_vectors.py"), "--cards", str(step_files.CARDS), seed,
                     str(CANDIDATES), made], check=True, stdout=subprocess.DEVNULL)
@@ -53,20 +41,18 @@ seen, first, others = set(), [], []
 for i, stream in sorted(enumerate(streams), key=lambda entry: (sum(map(len, entry[1])), entry[0])):
     if sum(map(len, stream)) > LARGEST:
         continue
-    facts = shown(stream[2])
+    facts = step_files.record_facts(stream[2])
     (others if facts <= seen else first).append((i, stream))
     seen |= facts
 picked = sorted((first + others)[:count])
-covered = set().union(*(shown(stream[2]) for _, stream in picked))
+covered = set().union(*(step_files.record_facts(stream[2]) for _, stream in picked))
 os.makedirs(out, exist_ok=True)
 with open(os.path.join(out, "streams.in"), "wb") as file:
     for _, stream in picked:
         file.write(b"".join(struct.pack("<I", len(part)) + part for part in stream))
 print("%d streams, places %s" % (len(picked), " ".join(str(i) for i, _ in picked)))
-answers = sorted(fact[1] for fact in covered if fact[0] == "answer")
-claims = sorted(fact[1:] for fact in covered if fact[0] == "claim")
-print("answers", answers)
-print("claims (type, outcome, slot)", claims)
-missing = sorted(step_files.wanted(NUMBERS) - step_files.parts_of(answers, claims))
+for name, title in (("answer", "answers"), ("claim", "claims (type, outcome, slot)"), ("together", "types of two claims of one call")):
+    print(title, *("/".join(map(str, numbers)) for numbers in sorted(fact[1:] for fact in covered if fact[0] == name)))
+missing = sorted(step_files.wanted(NUMBERS) - step_files.parts_of(covered), key=str)
 if missing or len(picked) < count:
     sys.exit("missing: %s" % missing)

@@ -4,7 +4,7 @@
 
 writes FOLDER/NAME.stream for each stream: the bytes of book.dat, the input, all that claimrun writes, and the places where the input is
 cut into pieces (four bytes each), each of the four parts behind its length of four bytes. tests/claimrun/data holds the files, packed by
-gzip -9n.
+gzip -9n. It fails where a claim type in force is missing.
 """
 import os
 import random
@@ -27,6 +27,7 @@ CALENDAR = mk.weekdays()
 OPEN_DAYS = ref.open_days(CALENDAR)
 FIRST_DAY = 20240103            # where the streams with loans open; on days before 20230130 card 7 has other rules
 FAIL_CLAIMS = 6                 # the most claims of a failed transfer of type 1 or 2 with monthly rows
+shown = set()                   # what the streams show
 
 
 class Direct:
@@ -59,6 +60,7 @@ def places(pieces) -> list:
 def store(name, book, data, cuts, machine):
     """Writes a stream, with what the reference answers to it."""
     expected = claimrun.run_bytes(book, data, machine)
+    shown.update(step_files.parts_of(step_files.record_facts(expected)))
     parts = (book, data, expected, struct.pack("<%dI" % len(cuts), *cuts))
     with open(os.path.join(sys.argv[2], name + ".stream"), "wb") as file:
         file.write(b"".join(struct.pack("<I", len(part)) + part for part in parts))
@@ -139,11 +141,11 @@ def some_transfer(dice, day: int, securities: int) -> bytes:
 
 
 def monthly_tables(dice, securities: int) -> list:
-    """Securities of all types with a row for each month from October 2023 on."""
+    """Securities of all types with a row for each month from October 2023 on, its Beneficiary Date up to 12 days into the month."""
     months = [20231001, 20231101, 20231201] + [20240001 + 100 * m for m in range(1, 13)]
 
     def rows():
-        return [ref.Row(m + dice.randrange(3), m + dice.randrange(3), m + 14, dice.randrange(10_000_000),
+        return [ref.Row(m + dice.randrange(3), m + dice.randrange(12), m + 14, dice.randrange(10_000_000),
                         dice.choice((0, dice.randrange(10 ** 9))), int(dice.random() < 0.1), dice.choice((0, 1 << dice.randrange(16))))
                 for m in months]
 
@@ -211,3 +213,5 @@ fill_points("fill-points-above", range(2, 7))
 buffer_ends()
 many_reads()
 closed_opening_day()
+missing = step_files.in_force(step_files.CLAIM_TYPES) - {n for name, n in shown if name == "type"}
+sys.exit("missing claim types: %s" % sorted(missing) if missing else 0)

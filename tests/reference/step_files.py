@@ -8,14 +8,15 @@ import os
 import struct
 import sys
 
-CARDS = 0                       # how many of document 02's cards are in force
+CARDS = 1                       # how many of document 02's cards are in force
 OPEN, TRANSFER, CLOSE, TABLES, BOOK = range(5)
 MODULUS = 4294967291
 
-# The answers and the claim types, each with the card that brings it; 0 is document 01.
+# The answers, the claim types and the types of two claims of one call, each with the card that brings it; 0 is document 01.
 ANSWERS = {n: 0 for n in (*range(12), 132, 133, 135, 138, 139)} | {
     12: 5, 13: 6, 14: 6, 15: 7, 16: 9, 17: 9, 18: 10, 19: 10, 20: 14, 21: 14}
 CLAIM_TYPES = {1: 0, 2: 1, 3: 0, 4: 3}
+TOGETHER = {(1, 1): 0, (1, 2): 1, (2, 2): 1, (3, 3): 0, (3, 4): 3, (4, 4): 3}
 OUTCOMES = SLOTS = range(4)
 
 
@@ -25,14 +26,43 @@ def in_force(table) -> set:
 
 
 def wanted(numbers) -> set:
-    """What stored data have to show: these answers, and the claim types, outcomes and slots in force."""
-    parts = {"answer": numbers, "type": in_force(CLAIM_TYPES), "outcome": OUTCOMES, "slot": SLOTS}
+    """What stored data have to show: these answers, and the claim types, alone and together, outcomes and slots in force."""
+    parts = {"answer": numbers, "type": in_force(CLAIM_TYPES), "together": in_force(TOGETHER), "outcome": OUTCOMES, "slot": SLOTS}
     return {(name, n) for name, values in parts.items() for n in values}
 
 
-def parts_of(answers, claims) -> set:
-    """What answers and claims show of it; a claim is its type, outcome and slot."""
-    return {("answer", n) for n in answers} | {part for claim in claims for part in zip(("type", "outcome", "slot"), claim)}
+def parts_of(facts) -> set:
+    """What facts show of what wanted asks for."""
+    parts = set()
+    for name, *numbers in facts:
+        if name == "claim":
+            parts |= set(zip(("type", "outcome", "slot"), numbers))
+        elif name == "together":
+            parts.add((name, tuple(numbers)))
+        elif name == "answer":
+            parts.add((name, numbers[-1]))
+    return parts
+
+
+def claim_facts(claims) -> set:
+    """What the claims of a call show: each its type, outcome and slot, and two of them their types."""
+    types = [claim[0] for claim in claims]
+    pairs = {(a, b) for a in set(types) for b in set(types) if a < b or a == b and types.count(a) > 1}
+    return {("claim", *claim) for claim in claims} | {("together", *pair) for pair in pairs}
+
+
+def record_facts(output: bytes) -> set:
+    """What the records that claimrun writes show: the answers, and the claims before each."""
+    facts, claims, at = set(), [], 0
+    while at < len(output):
+        following, kind = struct.unpack_from("<HH", output, at)
+        if kind == 3:
+            claims.append((output[at + 4], output[at + 5], output[at + 34]))
+        else:
+            facts |= claim_facts(claims) | {("answer", *struct.unpack_from("<H", output, at + 4))}
+            claims = []
+        at += 2 + following
+    return facts
 
 
 def reference_modules(folder, *names) -> list:

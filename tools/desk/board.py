@@ -188,7 +188,7 @@ class Side:
         """A claim or notice as a sentence."""
         names = self.book.names
         amounts = "$%s interest and $%s principal" % (claims.money(claim.interest), claims.money(claim.principal))
-        which = "the payment with Beneficiary Date %s (row %d)" % (self.coupon(claim), claim.row)
+        which = "the payment with Beneficiary Date %s (row %d, %s)" % (self.coupon(claim), claim.row, claims.type_of(claim))
         who = (escape(names.account_name(claim.payer)), escape(names.account_name(claim.payee)))
         if claim.outcome:
             return "<strong>A notice, no money moves</strong>: %s. It names %s as payer, %s as payee, %s, for %s." % (
@@ -205,7 +205,8 @@ class Side:
         names, rows = self.book.names, []
         for claim in made:
             release, when = ("notice", claims.SHORT_NOTICES[claim.outcome]) if claim.outcome else (told(claim.release), claims.when_or_why(claim))
-            cells = (self.coupon(claim), "$" + claims.money(claim.interest), "$" + claims.money(claim.principal), release, when)
+            cells = ("%s, %s" % (self.coupon(claim), claims.type_of(claim)), "$" + claims.money(claim.interest),
+                     "$" + claims.money(claim.principal), release, when)
             rows.append("<tr>%s</tr>" % "".join("<td%s>%s</td>" % (' class="amount"' if name in AMOUNTS else "", cell)
                                                 for name, cell in zip(COLUMNS, cells)))
         who = (escape(names.account_name(made[0].payer)), escape(names.account_name(made[0].payee)))

@@ -45,7 +45,7 @@ class Check:
     def take_claim(self, claim):
         if not may_claim(self.message, claim):
             raise self.fault("a claim that message %d cannot give" % self.messages,
-                             "fail claims between a transfer's own accounts in its security, lending claims of a close")
+                             "fail and interim claims between a transfer's own accounts in its security, lending claims of a close")
         if claim.outcome:
             self.notices += 1
         else:
@@ -92,9 +92,9 @@ def is_about_book(record):
 def may_claim(message, claim):
     """Whether a message is of the kind that gives such a claim, between the same accounts in the same security."""
     if isinstance(message, layout.Transfer):
-        return (claims.CLAIM_TYPES[claim.type], claim.payer, claim.payee, claim.security) == (
-            "fail", message.sender, message.receiver, message.security)
-    return isinstance(message, layout.Close) and claims.CLAIM_TYPES[claim.type] == "lending"
+        return claims.type_of(claim) in claims.TRANSFER_TYPES and (claim.payer, claim.payee, claim.security) == (
+            message.sender, message.receiver, message.security)
+    return isinstance(message, layout.Close) and claims.type_of(claim) not in claims.TRANSFER_TYPES
 
 
 def check(calls, output, name):

@@ -2,7 +2,8 @@
 from . import dates, layout, message_text
 from .errors import Fault
 
-CLAIM_TYPES = {1: "fail", 3: "lending"}
+CLAIM_TYPES = {1: "fail", 2: "interim", 3: "lending"}
+TRANSFER_TYPES = ("fail", "interim")
 NOTICES = {1: "both amounts are zero",
            2: "the payment redeems the security",
            3: "the payer's payment went to a non-interest-bearing account"}
@@ -112,6 +113,11 @@ def plain_money(cents):
 def release_date(claim):
     """The release date; none for a notice, whose record has 0."""
     return dates.show_number(claim.release) if claim.release else ""
+
+
+def type_of(claim):
+    """The type of a claim in a word."""
+    return CLAIM_TYPES[claim.type]
 
 
 def beneficiary_date(book, claim):

@@ -76,7 +76,8 @@ def claim_cells(entry, book, names):
     """A claim as the cells of the table."""
     claim = entry.record
     coupon = "row %d" % claim.row if book is None else claims.beneficiary_date(book, claim)
-    return (str(entry.number), "fail %d" % claim.transfer if claims.CLAIM_TYPES[claim.type] == "fail" else "loan",
+    kind = claims.type_of(claim)
+    return (str(entry.number), "%s %d" % (kind, claim.transfer) if kind in claims.TRANSFER_TYPES else "loan",
             names.account_label(claim.payer), names.account_label(claim.payee), names.security_label(claim.security), coupon,
             claims.money(claim.interest), claims.money(claim.principal), claims.release_date(claim) or "notice",
             claims.SHORT_NOTICES[claim.outcome] if claim.outcome else claims.SHORT_TIMES.get(claim.slot, "slot %d" % claim.slot))
@@ -145,7 +146,7 @@ def values(entry, book, names):
     if isinstance(record, layout.Answer):
         found = {"message": entry.number, "record": "answer", "answer": record.number, "meaning": claims.MEANINGS[record.number]}
         return found | (call_values(entry, names) if entry.call is not None else {})
-    found = {"message": entry.number, "record": kind_of(record), "type": claims.CLAIM_TYPES[record.type], "outcome": record.outcome}
+    found = {"message": entry.number, "record": kind_of(record), "type": claims.type_of(record), "outcome": record.outcome}
     if record.outcome:
         found["reason"] = claims.NOTICES[record.outcome]
     found |= named("payer", record.payer, names.accounts) | named("payee", record.payee, names.accounts)

@@ -134,7 +134,7 @@ class Board(Pages):
         self.assertEqual(page.tags.count("details"), 2)
         self.assertNotIn("open", dict(page.attributes))
         for words in ("Nobody owes anything.", "Harbor Bank owes Orchard Trust", "$5,000.00 interest and $10,000.00 principal",
-                      "Beneficiary Date Thu 1 Jun 2023 (row 0)", "Release date Thu 15 Jun 2023, during the day",
+                      "Beneficiary Date Thu 1 Jun 2023 (row 0, fail)", "Release date Thu 15 Jun 2023, during the day",
                       "Beneficiary Date Thu 1 Jun 2023: not claimed", "Beneficiary Date Thu 1 Jun 2023: claimed"):
             self.assertIn(words, page.folded)
             self.assertNotIn(words, page.words)
@@ -150,9 +150,21 @@ class Board(Pages):
         page = self.parsed(TWO_ROWS)
         self.assertEqual(page.tags.count("table"), 1)
         self.assertEqual(page.tags.count("tr"), 3)
-        for words in ("First Bank owes Second Bank", "Sat 1 Apr 2023", "Mon 1 May 2023", "$1,000.00", "Wed 10 May 2023", "Mon 15 May 2023"):
+        for words in ("First Bank owes Second Bank", "Sat 1 Apr 2023, fail", "Mon 1 May 2023, fail", "$1,000.00", "Wed 10 May 2023",
+                      "Mon 15 May 2023"):
             self.assertIn(words, page.folded)
         self.assertNotIn("$2,000.00", page.folded)
+
+    def test_interim_claims_are_told(self):
+        """Between the Record Date and the Beneficiary Date of the May payment: alone, and behind a fail."""
+        source = (BOOK + PAIR).replace("record = 2023-05-01", "record = 2023-04-03")
+        folded = self.parsed(source.replace("contract_date = 2023-03-15\n", "", 1)).folded
+        self.assertIn("First Bank owes Second Bank $1,000.00 interest and $0.00 principal, for the payment with Beneficiary Date "
+                      "Mon 1 May 2023 (row 1, interim). Release date Mon 15 May 2023, during the day.", folded)
+        page = self.parsed(source)
+        self.assertEqual(page.tags.count("tr"), 3)
+        for words in ("Sat 1 Apr 2023, fail", "Mon 1 May 2023, interim"):
+            self.assertIn(words, page.folded)
 
     def test_dates_have_one_form(self):
         for source in (WORKSHOP, TWO_ROWS):

@@ -13,6 +13,7 @@ from test_claims import answer, claim
 CLOSE = bytes([2, 0, 2, 0])
 TRANSFER = content(CASE_MESSAGES)
 OUTPUT = content(CASE_OUTPUT)
+INTERIM = claim(2)
 LENDING = claim(3, transfer=0)
 VECTORS = os.path.join(common.ROOT, "crates", "vectors", "data", "streams.in")
 
@@ -63,6 +64,10 @@ class Checks(common.Desk):
                          "1,202 messages, 1,202 answers, 2 claims, 2 notices\n")
         self.assertEqual(self.agreed(b"", b""), "0 messages, 0 answers, 0 claims, 0 notices\n")
 
+    def test_interim_claims_are_a_transfers(self):
+        self.assertEqual(self.agreed(TRANSFER * 2, claim() + INTERIM * 2 + answer(0) + INTERIM + answer(0)),
+                         "2 messages, 2 answers, 4 claims, 0 notices\n")
+
     def test_refused_messages(self):
         self.assertEqual(self.agreed(TRANSFER + CLOSE + TRANSFER, answer(138) + answer(9) + OUTPUT),
                          "3 messages, 3 answers, 1 claim, 0 notices\n")
@@ -103,8 +108,8 @@ class Checks(common.Desk):
         self.refused("record 2, byte 35: message 1 is refused with 6, and there are claims of it", TRANSFER, OUTPUT[:35] + answer(6))
 
     def test_claims_of_other_messages(self):
-        for messages, record in ((CLOSE, claim()), (TRANSFER, LENDING), (TRANSFER, claim(payer=3)), (TRANSFER, claim(payee=3)),
-                                 (TRANSFER, claim(security=1)), (b"\2", claim())):
+        for messages, record in ((CLOSE, claim()), (CLOSE, INTERIM), (TRANSFER, LENDING), (TRANSFER, claim(payer=3)),
+                                 (TRANSFER, claim(payee=3)), (TRANSFER, claim(2, payee=3)), (TRANSFER, claim(security=1)), (b"\2", claim())):
             self.refused("record 1, byte 0: a claim that message 1 cannot give", messages, record + answer(0))
 
     def test_a_failed_check_writes_no_file(self):

@@ -37,6 +37,15 @@ class Claims(common.Desk):
         self.assertEqual(lines[2].split(), "1 accepted".split())
         self.assertEqual(lines[3:], [""])
 
+    def test_types(self):
+        """Each claim type by its word in each form; the table tells the claims of a transfer by its number."""
+        for kind, word, short in ((1, "fail", "fail 7"), (2, "interim", "interim 7"), (3, "lending", "loan")):
+            data = claim(kind, transfer=7 * (kind != 3)) + answer(0)
+            self.assertIn("  1  %s  " % short, self.shown(data).split("\n")[1])
+            rows = list(csv.DictReader(io.StringIO(self.shown(data, "--format", "csv"))))
+            for found in (rows[0], self.objects(data)[0]):
+                self.assertEqual((found["type"], str(found.get("transfer", ""))), (word, "" if kind == 3 else "7"))
+
     def test_standard_input(self):
         self.assertEqual(self.good("claims", "show", given=OUTPUT).decode(), self.shown(OUTPUT))
 
@@ -176,7 +185,7 @@ class Claims(common.Desk):
                             (OUTPUT[:3], "byte 0: the record that begins here is cut short"),
                             (OUTPUT + b"\2\0\2\0", "byte 41: no claim or answer begins here (bytes 02 00 02 00)"),
                             (answer(12), "byte 0: the answer 12 has no meaning"),
-                            (answer(0) + claim(kind=2), "byte 6: a claim with type 2; allowed: 1, 3"),
+                            (answer(0) + claim(kind=4), "byte 6: a claim with type 4; allowed: 1, 2, 3"),
                             (claim(outcome=4), "a claim with outcome 4"), (claim(payer=16), "a claim with payer 16"),
                             (claim(payee=16), "a claim with payee 16"), (claim(security=16), "a claim with security 16"),
                             (claim(row=16), "a claim with row 16"), (claim(slot=4), "a claim with slot 4")):

@@ -48,6 +48,14 @@ class Examples(common.Desk):
         found = self.claims("attachment-2-fail-2.toml")[1]
         self.assertEqual([claim["release_date"] for claim in found], ["2024-04-15"])
 
+    def test_attachment_2_interim(self):
+        """Example 2 gives a claim on the Payment Date, 15 December; example 1 gives none."""
+        calls, found = self.claims("attachment-2-interim.toml")
+        self.assertEqual([call["text2"] for call in calls.values() if call["call"] == "transfer"], ["Example 2", "Example 1"])
+        self.assertEqual([(calls[claim["message"]]["text2"], claim["type"], claim["payer_name"], claim["payee_name"],
+                           claim["security_name"], claim["release_date"]) for claim in found],
+                         [("Example 2", "interim", "Bank X/1020", "Bank Y/1030", "CUSIP B", "2026-12-15")])
+
     def test_attachment_2_lending(self):
         """The three claims are on the memo's balances of 15,000, 50,000 and 10,000 at factor 0.004."""
         found = self.claims("attachment-2-lending.toml")[1]
@@ -68,7 +76,8 @@ class Examples(common.Desk):
         for code in ("transfer", "SLST", "SLRV", "CLSL", "CLSR", "ADSL", "ADSR", "close", "other"):
             self.assertIn(code, words)
         self.assertEqual({(claim["type"], claim["outcome"]) for claim in found},
-                         {("fail", 0), ("fail", 3), ("lending", 0), ("lending", 1), ("lending", 2), ("lending", 3)})
+                         {("fail", 0), ("fail", 3), ("interim", 0), ("interim", 3), ("lending", 0), ("lending", 1), ("lending", 2),
+                          ("lending", 3)})
         self.assertEqual({claim["time"] for claim in found if "time" in claim}, {"8:05", "8:45", "during the day"})
 
     def readme_block(self, first, *place):

@@ -1,5 +1,5 @@
 //! The book and its calls.
-use super::claims::{self, Fail};
+use super::claims;
 use super::days::{self, Calendar};
 use super::records::{self, Transfer};
 use super::tables::{self, Tables};
@@ -106,17 +106,10 @@ impl<'a> Sound<'a> {
         let contract = tags::contract_date(transfer.lines, self.book.day, transfer.class)?;
         let number = self.book.count.checked_add(1).ok_or(11u16)?;
         let loan = self.loan(&transfer)?;
-        let mut written = 0;
-        if let (0, Some(contract)) = (transfer.code, contract) {
-            let fail = Fail {
-                sender: transfer.sender,
-                receiver: transfer.receiver,
-                security: transfer.security,
-                transfer: number,
-                par: transfer.par,
-            };
-            written = claims::write_fails(self.calendar, self.tables, self.book.day, contract, &fail, claims)?;
-        }
+        let written = match transfer.code {
+            0 => claims::write_transfer(self.calendar, self.tables, self.book.day, number, &transfer, contract, claims)?,
+            _ => 0,
+        };
         if let Some((at, after)) = loan {
             self.balances[at] = after;
         }

@@ -1,10 +1,11 @@
 //! Amounts, outcomes and release of claims; the claims of a transfer and of a close.
 use super::days::{self, Calendar};
-use super::records::{CLAIM_BYTES, Claim};
+use super::records::{CLAIM_BYTES, Claim, Transfer};
 use super::tables::{self, Row, Security, Tables};
 use std::ops::Range;
 
 const FAIL: u8 = 1;
+const INTERIM: u8 = 2;
 const LENDING: u8 = 3;
 
 /// Cents on a par by a factor, half a cent up.
@@ -40,7 +41,7 @@ fn claim(calendar: &Calendar, day: u32, due: &Due) -> Claim {
     };
     let (release, slot) = if outcome != 0 {
         (0, 0)
-    } else if due.claim_type == FAIL && payment <= day {
+    } else if due.claim_type != LENDING && payment <= day {
         (days::open_after(calendar, day).unwrap_or(0), 2)
     } else {
         let slot = if matches!(due.kind, 1 | 4) { 1 } else { 3 };
@@ -63,59 +64,62 @@ fn claim(calendar: &Calendar, day: u32, due: &Due) -> Claim {
 
 /// The most Beneficiary Dates that a fail goes back.
 fn most_rows(security: &Security) -> usize {
-    match (security[0], security[1]) {
-        (3 | 4, _) => 7,
-        (_, 1) => 6,
-        (_, 2) => 3,
-        (_, 3) => 2,
+    match security[1] {
+        _ if tables::is_mbs(security) => 7,
+        1 => 6,
+        2 => 3,
+        3 => 2,
         _ => 1,
     }
 }
 
-/// The eligible rows of a failed transfer: Beneficiary Dates rise, so they stand together.
-fn eligible(security: &Security, day: u32, contract: u32) -> Range<usize> {
+/// The rows that a transfer of code 0 claims, which stand together, and where the interim ones begin.
+struct Claimed {
+    rows: Range<usize>,
+    interim: usize,
+}
+
+/// Record and Beneficiary Dates rise, so the rows with such a date up to the day stand first. Of those with the Beneficiary Date, a fail
+/// claims the most recent ones; interim are those with the Record Date alone.
+fn claimed(security: &Security, day: u32, contract: Option<u32>) -> Claimed {
     let rows = tables::rows(security);
-    let reached = rows.iter().take_while(|row| row[1] != 0 && row[1] <= day).count();
-    let most = most_rows(security).min(reached);
-    let later = rows[..reached].iter().rev().take(most).take_while(|row| contract < row[1]).count();
-    reached - later..reached
+    let up_to_day = |date: usize| rows.iter().take_while(|row| row[date] != 0 && row[date] <= day).count();
+    let reached = up_to_day(1);
+    let fails = contract.map_or(0, |contract| {
+        let recent = rows[..reached].iter().rev().take(most_rows(security));
+        recent.take_while(|row| contract < row[1]).count()
+    });
+    let end = if tables::is_mbs(security) { reached.max(up_to_day(0)) } else { reached };
+    Claimed { rows: reached - fails..end, interim: reached }
 }
 
-/// A failed transfer: its parties, security, number and par.
-pub struct Fail {
-    pub sender: u8,
-    pub receiver: u8,
-    pub security: u8,
-    pub transfer: u32,
-    pub par: u32,
-}
-
-/// The fail claims of a transfer, written from the buffer's start, or 10.
-pub fn write_fails(
+/// The fail and interim claims of a transfer of code 0, written from the buffer's start, or 10.
+pub fn write_transfer(
     calendar: &Calendar,
     tables: &Tables,
     day: u32,
-    contract: u32,
-    fail: &Fail,
+    number: u32,
+    transfer: &Transfer,
+    contract: Option<u32>,
     buffer: &mut [u8],
 ) -> Result<usize, u16> {
-    let security = &tables::securities(tables)[fail.security as usize];
-    let eligible = eligible(security, day, contract);
-    let count = eligible.len();
+    let security = &tables::securities(tables)[transfer.security as usize];
+    let claimed = claimed(security, day, contract);
+    let count = claimed.rows.len();
     let room = buffer.get_mut(..CLAIM_BYTES * count).ok_or(10u16)?;
     let (records, _) = room.as_chunks_mut::<CLAIM_BYTES>();
     let rows = tables::rows(security).iter().enumerate();
-    for (record, (row, words)) in records.iter_mut().zip(rows.skip(eligible.start)) {
+    for (record, (row, words)) in records.iter_mut().zip(rows.skip(claimed.rows.start)) {
         let due = Due {
-            claim_type: FAIL,
-            payer: fail.sender,
-            payee: fail.receiver,
-            security: fail.security,
+            claim_type: if row < claimed.interim { FAIL } else { INTERIM },
+            payer: transfer.sender,
+            payee: transfer.receiver,
+            security: transfer.security,
             kind: security[0],
             row: row as u8,
             words,
-            transfer: fail.transfer,
-            par: fail.par as u64,
+            transfer: number,
+            par: transfer.par as u64,
         };
         *record = claim(calendar, day, &due).bytes();
     }

@@ -32,6 +32,11 @@ pub fn is_used(security: &Security) -> bool {
     security[0] != 0
 }
 
+/// Whether a security is mortgage-backed.
+pub fn is_mbs(security: &Security) -> bool {
+    matches!(security[0], 3 | 4)
+}
+
 /// Whether the tables keep every rule.
 pub fn are_sound(tables: &Tables, last_open: Option<u32>) -> bool {
     securities(tables).iter().all(|security| is_sound(security, last_open.unwrap_or(0)))
