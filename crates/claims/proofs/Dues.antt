@@ -1,6 +1,6 @@
 -- What a transfer claims, in other words: an interim row is one of type 3 or 4 with Record Date ≤ S < Beneficiary Date, and the rows
 -- claimed are those of the table that are eligible or interim, in its order. A row is never both, since an eligible one has
--- Beneficiary Date ≤ S; so no Beneficiary Date is claimed twice.
+-- Beneficiary Date ≤ S; so no Beneficiary Date is claimed twice, and a transfer has at most 16 claims.
 use mathlib.Core.Path.{_≡_, refl, sym, ap, ap₂, _∙_}
 use mathlib.Core.Logic.{_↔_}
 use mathlib.Core.Bool.{Bool, true, false, cond, _&&_, _||_}
@@ -8,17 +8,20 @@ use mathlib.Core.List.{List, [], _∷_, _++_, map, map-append}
 use Prim.Native.Nat.{ℕ, _≤_, _<_}
 use native.Mathlib.Omega.{arith}
 use lib.Dec.{eqb, leb}
+use lib.ListN.{length, length-map}
 use borrow.Author.Tests.{ltb-true, leb-true, lt-ltb, le-leb}
 use Rattle.lists.specs.Tests.{and-left, and-right}
 use Rattle.lists.specs.All.{all-each}
 use Rattle.lists.specs.Select.{select, rising, select-none, select-halves, rising-select}
 use Rattle.records.specs.declared.Transfer.{Transfer}
-use Rattle.securities.specs.Securities.{securityOf, typeOf, frequencyOf, Row, filledRows, goodRow}
+use Rattle.securities.specs.Securities.{securityOf, typeOf, frequencyOf, Row, rowsOf, isFilled, filledRows, goodRow}
 use Rattle.securities.proofs.Sound.{good-row}
 use Rattle.tags.specs.declared.Tag.{Tag}
 use Rattle.tags.specs.ContractDateTag.{contractDate}
 use Rattle.claims.specs.Amounts.{failType, interimType}
-use Rattle.claims.specs.Fails.{maximumNumbers, isMbs, maximumFor, eligible, isInterim, interimIn, interim, Due, due, fails, dues}
+use Rattle.claims.specs.Fails.{maximumNumbers, isMbs, maximumFor, eligible, isInterim, interimIn, interim, Due, due, fails, dues, transferClaims}
+use Rattle.claims.proofs.Runs.{select-within}
+use Rattle.claims.proofs.TableRows.{length-rows-of}
 use Rattle.claims.proofs.Eligible.{beneficiary, isEligible, eligible-words, eligible-is}
 
 -- ---- a test of all rows, and one of each
@@ -97,3 +100,17 @@ module _ (tables : List ℕ) (day : ℕ) (t : Transfer) (tag : Tag) where
   pub rising-dues : (key : Row → ℕ) → rising beneficiary (filledRows tables (t .security)) ≡ true → rising key (filledRows tables (t .security)) ≡ true
       → rising key (map (λ d. d .row) (dues tables day t tag)) ≡ true
   rising-dues key e k = rw (dues-rows e) (rising-select key _ (filledRows tables (t .security)) k)
+
+  -- ---- how many claims
+
+  few-filled : length rows ≤ 16
+  unfolding filledRows
+  few-filled = omega (arith, select-within isFilled (rowsOf (securityOf tables (t .security))), length-rows-of tables (t .security))
+
+  -- no more than the security has rows
+  pub few-transfer : (calendar : List ℕ) (number : ℕ) → rising beneficiary (filledRows tables (t .security)) ≡ true
+      → length (transferClaims calendar tables day number t tag) ≤ 16
+  unfolding transferClaims
+  few-transfer calendar number e =
+      let claimed = select-within (λ (row : Row). isFailDue row || isInterimDue row) rows in
+      simp length-map (omega (arith, few-filled, claimed, ap length (dues-rows e), length-map (dues tables day t tag) (λ d. d .row)))

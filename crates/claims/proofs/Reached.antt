@@ -7,8 +7,8 @@ use mathlib.Core.List.{List, [], _∷_, _++_, map, map-append, map-map}
 use Prim.Native.Nat.{ℕ, zero, suc, _+_, _-_, _≤_, _<_}
 use native.Mathlib.Nat.{not-suc-le-zero, le-of-suc-le-suc, sub-zero}
 use native.Mathlib.Omega.{arith}
-use lib.Dec.{eqb, ltb, leb}
-use lib.ListN.{length, take, drop, getD, length-map, length-append}
+use lib.Dec.{ltb, leb}
+use lib.ListN.{length, take, drop, getD}
 use lib.Seq.{length-take-le}
 use borrow.Author.Tests.{ltb-true, ltb-false, leb-true, leb-false, eqb-true, lt-ltb, le-ltb, lt-leb, eq-eqb, ne-eqb}
 use Rattle.lists.specs.Tests.{and-left, and-right}
@@ -18,15 +18,14 @@ use Rattle.lists.specs.Select.{select, lastOf}
 use Rattle.days.specs.Days.{isDate, lastOpen}
 use Rattle.records.specs.declared.Claim.{Claim}
 use Rattle.records.specs.declared.Transfer.{Transfer}
-use Rattle.securities.specs.Securities.{securityOf, typeOf, frequencyOf, Row, rowsFrom, rowsOf, isEmpty, isFilled, filledRows, goodRow, goodRows, goodTables}
+use Rattle.securities.specs.Securities.{securityOf, typeOf, frequencyOf, Row, rowsOf, isEmpty, isFilled, filledRows, goodRow, goodRows, goodTables}
 use Rattle.securities.proofs.Sound.{Good, good-row}
 use Rattle.tags.specs.declared.Tag.{Tag}
 use Rattle.tags.specs.ContractDateTag.{tagged, contractDate}
 use Rattle.claims.specs.Amounts.{failType, interimType, claimOn}
 use Rattle.claims.specs.Fails.{maximumNumbers, isMbs, maximumFor, eligibleIn, eligible, isInterim, interimIn, interim, Due, due, fails, dues, transferParties, transferClaims}
 use Rattle.claims.specs.Reached.{rowAt, leading, dateAt, isReached, reachedRows, interimEnd, Claiming}
-use Rattle.claims.proofs.Runs.{select-within, last-within}
-use Rattle.claims.proofs.TableRows.{rows-length, rows-of-at, length-rows-of, good-rows}
+use Rattle.claims.proofs.TableRows.{rows-of-at, length-rows-of, good-rows}
 
 -- ---- tests
 
@@ -374,44 +373,3 @@ module _ (calendar tables : List ℕ) (day : ℕ) (t : Transfer) where
                 ≡ take (interimEnd tables (t .security) day - reachedBy 1) (drop (reachedBy 1) rows)
             by true q = between-window ∙ many (reachedBy 0 - reachedBy 1) (omega (arith, n q))
             by false q = many 0 (omega arith)
-
--- ---- how many claims
-
-few-filled : (tables : List ℕ) (s : ℕ) → length (filledRows tables s) ≤ 16
-unfolding filledRows rowsOf
-few-filled tables s =
-    let all-rows = rowsFrom 16 0 (drop 2 (securityOf tables s)) in
-    omega (arith, rows-length 16 0 (drop 2 (securityOf tables s)), select-within isFilled all-rows)
-
-few-eligible : (tables : List ℕ) (day : ℕ) (t : Transfer) (tag : Tag) → length (eligible tables day t tag) ≤ 16
-unfolding eligible eligibleIn
-few-eligible tables day t tag =
-    let words = securityOf tables (t .security) in
-    let reached = select (λ (row : Row). leb (row .beneficiaryDate) day) (filledRows tables (t .security)) in
-    let maximum = maximumFor maximumNumbers (typeOf words) (frequencyOf words) in
-    omega (
-      arith,
-      few-filled tables (t .security),
-      select-within (λ (row : Row). leb (row .beneficiaryDate) day) (filledRows tables (t .security)),
-      last-within maximum reached,
-      select-within (λ (row : Row). ltb (contractDate tag) (row .beneficiaryDate)) (lastOf maximum reached),
-    )
-
-few-interim : (tables : List ℕ) (day : ℕ) (t : Transfer) → length (interim tables day t) ≤ 16
-unfolding interim interimIn
-few-interim tables day t = go (isMbs (typeOf (securityOf tables (t .security))))
-  where
-    go : (b : Bool) → length (cond b (select (isInterim day) (filledRows tables (t .security))) []) ≤ 16
-    go true = omega (arith, few-filled tables (t .security), select-within (isInterim day) (filledRows tables (t .security)))
-    go false = omega arith
-
--- a transfer has at most 32 claims, whatever it is
-pub few-transfer : (calendar tables : List ℕ) (day number : ℕ) (t : Transfer) (tag : Tag) → length (transferClaims calendar tables day number t tag) ≤ 32
-unfolding transferClaims dues
-few-transfer calendar tables day number t tag =
-    simp (length-map, length-append)
-    (omega (arith, few (fails t tag) failType (eligible tables day t tag) (few-eligible tables day t tag), few (eqb (t .code) 0) interimType (interim tables day t) (few-interim tables day t)))
-  where
-    few : (b : Bool) (claimType : ℕ) (rs : List Row) → length rs ≤ 16 → length (cond b (map (due claimType) rs) []) ≤ 16
-    few true claimType rs h = simp length-map h
-    few false claimType rs h = omega arith

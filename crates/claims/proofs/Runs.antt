@@ -5,9 +5,9 @@ use mathlib.Core.List.{List, [], _∷_, _++_, append-nil, append-assoc, map}
 use Prim.Native.Nat.{ℕ, zero, suc, _+_, _-_, _≤_, _<_}
 use native.Mathlib.Nat.{add-zero, add-suc}
 use native.Mathlib.Omega.{arith}
-use lib.ListN.{length, take, getD, length-drop}
+use lib.ListN.{length, take, getD}
 use lib.Seq.{take-suc}
-use Rattle.lists.specs.Select.{select, lastOf}
+use Rattle.lists.specs.Select.{select}
 use Rattle.lists.specs.Tabulate.{each, eachOf}
 
 -- ---- for each element
@@ -69,7 +69,3 @@ select-within p (x ∷ xs) = go (p x) (select-within p xs)
     go : (b : Bool) → length (select p xs) ≤ length xs → length (cond b (x ∷ select p xs) (select p xs)) ≤ length (x ∷ xs)
     go true h = omega arith
     go false h = omega arith
-
-pub last-within : {A : Type 0} (n : ℕ) (xs : List A) → length (lastOf n xs) ≤ length xs
-unfolding lastOf
-last-within n xs = omega (arith, length-drop (length xs - n) xs)

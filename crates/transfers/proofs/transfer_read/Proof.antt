@@ -6,11 +6,12 @@ use lib.ListN.{length}
 use Rattle.records.specs.declared.Claim.{Claim}
 use Rattle.records.specs.declared.Transfer.{Transfer}
 use Rattle.records.proofs.Readings.{transfer-long, first-line-length, second-line-length}
+use Rattle.securities.proofs.Sound.{sound-rows}
 use Rattle.claims.specs.Passes.{free-count, free-store, passed-written}
 use Rattle.claims.specs.Written.{written}
 use Rattle.claims.specs.Reached.{Claiming}
 use Rattle.claims.proofs.TableRows.{small-frequency}
-use Rattle.claims.proofs.Reached.{few-transfer}
+use Rattle.claims.proofs.Dues.{few-transfer}
 use Rattle.fails.specs.Recent.{recentClaims}
 use Rattle.fails.proofs.Claimed.{Recently, recently}
 use Rattle.book.specs.Loans.{changeOf, changed}
@@ -80,10 +81,15 @@ claims-on c =
 
 -- they are few
 few-on : (c : tie.After-recent-rows)
-    → length (recentClaims (c .before .before .before .before .before .before .before .before .before .before .before .before .before .args .calendar .now) (c .before .before .before .before .before .before .before .before .before .before .before .before .before .args .tables .now) (c .before .before .before .before .before .before .before .before .before .before .before .before .before .args .book .day) (c .before .before .before .before .before .before .before .before .before .before .before .before .before .args .book .count + 1) (c .before .before .before .before .before .before .before .before .before .before .before .before .before .args .t) (c .recent-rows .result)) ≤ 32
+    → length (recentClaims (c .before .before .before .before .before .before .before .before .before .before .before .before .before .args .calendar .now) (c .before .before .before .before .before .before .before .before .before .before .before .before .before .args .tables .now) (c .before .before .before .before .before .before .before .before .before .before .before .before .before .args .book .day) (c .before .before .before .before .before .before .before .before .before .before .before .before .before .args .book .count + 1) (c .before .before .before .before .before .before .before .before .before .before .before .before .before .args .t) (c .recent-rows .result)) ≤ 16
 few-on c =
-    let a = c .before .before .before .before .before .before .before .before .before .before .before .before .before .args in
-    subst (λ (l : List Claim). length l ≤ 32) (claims-on c .claims) (few-transfer (a .calendar .now) (a .tables .now) (a .book .day) (a .book .count + 1) (a .t) (c .before .before .before .before .before .tag-of .result))
+    let s = c .before .before .before .before .before .before .before .before .before .before .before .before .before in
+    let a = s .args in
+    let k = judged.sound-number _ _ _ _ (s .pre .0) .tables-sound in
+    let f = passed _ _ _ _ _ (sym (c .before .before .before .own-number .ensures) ∙ c .before .before .if1 .left) .fields in
+    subst (λ (l : List Claim). length l ≤ 16) (claims-on c .claims)
+    (few-transfer (a .tables .now) (a .book .day) (a .t) (c .before .before .before .before .before .tag-of .result) (a .calendar .now) (a .book .count + 1)
+    (sound-rows (a .calendar .now) (a .tables .now) (a .t .security) (k .table-rules) (f .security) .beneficiaries))
 
 -- what they ask is there
 asks-on : (c : tie.After-recent-rows)
