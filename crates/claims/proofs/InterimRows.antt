@@ -1,5 +1,6 @@
 -- Interim claims worked out, as rows that compute: each claim's fields written out. The first table is that of the interim examples of
--- source document 001 (Clearing Memo 278), Attachment II.
+-- source document 001 (Clearing Memo 278), Attachment II, with the year 2023: example 2 is the row of 7 December; that of example 1 is the
+-- one of the 18th, since the 17th is a Sunday.
 use mathlib.Core.Path.{_≡_, refl}
 use mathlib.Core.Bool.{true}
 use mathlib.Core.List.{List, [], _∷_, _++_}
