@@ -8,7 +8,7 @@ ghost use lib.ListN.{length};
 ghost use Rattle.lists.specs.Put.{put};
 ghost use Rattle.days.specs.Days.{dayNumber};
 ghost use Rattle.securities.specs.Securities.{rowOf};
-ghost use Rattle.claims.specs.Amounts.{centsOn, outcomeOf, releaseOf, isEarly, slotOf, claimOn};
+ghost use Rattle.claims.specs.Amounts.{interimType, lendingType, centsOn, outcomeOf, releaseOf, isEarly, slotOf, claimOn};
 ghost use Rattle.claims.specs.Claimable.{Claimable};
 ghost use Rattle.claims.specs.Written.{claimBytes};
 use days::Day;
@@ -58,7 +58,7 @@ fn is_nothing(interest: Cents, principal: Cents) -> bool
 
 // Whether a claim is a lending claim on a payment that redeems the security.
 fn is_redeemed(claim_type: u8, last: u32) -> bool
-    ensures { λ r. ⌜ r ≡ (eqb «claim_type» 3 && eqb last 1) ⌝ }
+    ensures { λ r. ⌜ r ≡ (eqb «claim_type» lendingType && eqb last 1) ⌝ }
 {
     if claim_type != LENDING {
         return false;
@@ -95,7 +95,7 @@ fn number_of(day: Day) -> u32
 
 // Whether a claim is a fail or interim claim with Payment Date on or before the day.
 fn is_late(claim_type: u8, day: u32, payment_date: u32) -> bool
-    ensures { λ r. ⌜ r ≡ (leb «claim_type» 2 && leb «payment_date» day) ⌝ }
+    ensures { λ r. ⌜ r ≡ (leb «claim_type» interimType && leb «payment_date» day) ⌝ }
 {
     if INTERIM < claim_type {
         return false;

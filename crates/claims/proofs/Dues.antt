@@ -14,12 +14,12 @@ use Rattle.lists.specs.Tests.{and-left, and-right}
 use Rattle.lists.specs.All.{all-each}
 use Rattle.lists.specs.Select.{select, rising, select-none, select-halves, rising-select}
 use Rattle.records.specs.declared.Transfer.{Transfer}
-use Rattle.securities.specs.Securities.{securityOf, typeOf, frequencyOf, Row, rowsOf, isFilled, filledRows, goodRow}
+use Rattle.securities.specs.Securities.{securityOf, typeOf, Row, rowsOf, isFilled, filledRows, goodRow}
 use Rattle.securities.proofs.Sound.{good-row}
 use Rattle.tags.specs.declared.Tag.{Tag}
 use Rattle.tags.specs.ContractDateTag.{contractDate}
 use Rattle.claims.specs.Amounts.{failType, interimType}
-use Rattle.claims.specs.Fails.{maximumNumbers, isMbs, maximumFor, eligible, isInterim, interimIn, interim, Due, due, fails, dues, transferClaims}
+use Rattle.claims.specs.Fails.{isMbs, maximumOf, eligible, isInterim, interimIn, interim, Due, due, fails, dues, transferClaims}
 use Rattle.claims.proofs.Runs.{select-within}
 use Rattle.claims.proofs.TableRows.{length-rows-of}
 use Rattle.claims.proofs.Eligible.{beneficiary, isEligible, eligible-words, eligible-is}
@@ -65,10 +65,7 @@ module _ (tables : List ℕ) (day : ℕ) (t : Transfer) (tag : Tag) where
 
   -- a row that a failed transfer claims
   unfoldable pub isFailDue : Row → Bool
-  isFailDue row =
-      let words = securityOf tables (t .security) in
-      fails t tag
-      && isEligible (maximumFor maximumNumbers (typeOf words) (frequencyOf words)) (contractDate tag) day (filledRows tables (t .security)) row
+  isFailDue row = fails t tag && isEligible (maximumOf tables (t .security)) (contractDate tag) day (filledRows tables (t .security)) row
 
   -- a row that is claimed with tracking code 0, tag or no tag
   unfoldable pub isInterimDue : Row → Bool

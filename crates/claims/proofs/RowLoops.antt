@@ -3,12 +3,12 @@ use mathlib.Core.Path.{_≡_, refl, sym, ap, _∙_, subst}
 use mathlib.Core.Bool.{Bool, true, false, cond}
 use mathlib.Core.List.{List, []}
 use Prim.Native.Nat.{ℕ, suc, _+_, _-_, _*_, _≤_, _<_}
-use native.Mathlib.Nat.{zero-add, add-zero}
+use native.Mathlib.Nat.{add-zero}
 use native.Mathlib.Numerals.{add-one}
 use native.Mathlib.Omega.{arith}
 use lib.ListN.{length, take, drop, getD, length-take, length-drop, drop-of-length-le}
 use lib.Seq.{drop-cons}
-use borrow.Author.Tests.{lt-ltb, le-ltb, le-leb, lt-leb}
+use borrow.Author.Tests.{lt-ltb, le-leb, lt-leb}
 use Rattle.lists.specs.Tabulate.{each}
 use Rattle.records.specs.declared.Claim.{Claim}
 use Rattle.records.specs.declared.Transfer.{Transfer}
@@ -16,22 +16,21 @@ use Rattle.securities.specs.Securities.{securityOf, typeOf, Row, rowOf, rowsOf}
 use Rattle.claims.specs.Fails.{isMbs}
 use Rattle.claims.specs.Claimable.{Claimable}
 use Rattle.claims.specs.Passes.{Free, Passed, pass-start, pass-more, pass-now, pass-end}
-use Rattle.claims.specs.Reached.{rowAt, leading, dateAt, isReached, reachedRows, interimEnd, Claiming}
-use Rattle.claims.proofs.Reached.{and-false}
+use Rattle.claims.specs.Reached.{rowAt, leading, dateAt, isReached, reachedFrom, reachedRows, interimEnd, Claiming}
 use Rattle.claims.proofs.TableRows.{rows-of-at, date-word, length-rows-of}
 
 -- ---- the rows that the day has reached
 
--- what the loop keeps: the rows below i are reached, those from i on decide
-pub record Reaching (column : ℕ) (tables : List ℕ) (s day i : ℕ) : Type 0 where
+-- what the loop keeps: the rows from the first one up to i are reached, those from i on decide
+pub record Reaching (column : ℕ) (tables : List ℕ) (s day first i : ℕ) : Type 0 where
   pub small : i ≤ 16
-  pub rest : reachedRows column tables s day ≡ i + leading (isReached column day) (drop i (rowsOf (securityOf tables s)))
+  pub rest : reachedFrom column tables s day first ≡ i + leading (isReached column day) (drop i (rowsOf (securityOf tables s)))
 
-pub reach-start : (column : ℕ) (tables : List ℕ) (s day : ℕ) → Reaching column tables s day 0
-unfolding reachedRows
-reach-start column tables s day = record { small = omega arith; rest = sym (zero-add _) }
+pub reach-start : (column : ℕ) (tables : List ℕ) (s day first : ℕ) → first ≤ 16 → Reaching column tables s day first first
+unfolding reachedFrom
+reach-start column tables s day first h = record { small = h; rest = refl }
 
-module _ {column : ℕ} {tables : List ℕ} {s day i : ℕ} (k : Reaching column tables s day i) (h : i < 16) (c : column < 2) where
+module _ {column : ℕ} {tables : List ℕ} {s day first i : ℕ} (k : Reaching column tables s day first i) (h : i < 16) (c : column < 2) where
   leading-here : leading (isReached column day) (drop i (rowsOf (securityOf tables s)))
       ≡ cond (isReached column day (rowAt tables s i)) (suc (leading (isReached column day) (drop (suc i) (rowsOf (securityOf tables s))))) 0
   unfolding leading
@@ -40,13 +39,13 @@ module _ {column : ℕ} {tables : List ℕ} {s day i : ℕ} (k : Reaching column
       let here = rowAt tables s i in
       rw (drop-cons rows i here (omega (arith, length-rows-of tables s)), rows-of-at tables s i here h)
 
-  pub reach-empty : getD tables (114 * s + 2 + 7 * i + column) 0 ≡ 0 → i ≡ reachedRows column tables s day
+  pub reach-empty : getD tables (114 * s + 2 + 7 * i + column) 0 ≡ 0 → i ≡ reachedFrom column tables s day first
   unfolding isReached
   reach-empty z =
       let e : dateAt column (rowAt tables s i) ≡ 0 = sym (date-word tables s i column c) ∙ z in
       sym (k .rest ∙ rw (leading-here, e) (add-zero i))
 
-  pub reach-later : day < getD tables (114 * s + 2 + 7 * i + column) 0 → i ≡ reachedRows column tables s day
+  pub reach-later : day < getD tables (114 * s + 2 + 7 * i + column) 0 → i ≡ reachedFrom column tables s day first
   unfolding isReached
   reach-later l =
       let date = dateAt column (rowAt tables s i) in
@@ -54,7 +53,7 @@ module _ {column : ℕ} {tables : List ℕ} {s day i : ℕ} (k : Reaching column
       sym (k .rest ∙ rw (leading-here, lt-ltb 0 date (omega arith), lt-leb date day m) (add-zero i))
 
   pub reach-next : (getD tables (114 * s + 2 + 7 * i + column) 0 ≡ 0 → ⊥) → getD tables (114 * s + 2 + 7 * i + column) 0 ≤ day
-      → Reaching column tables s day (i + 1)
+      → Reaching column tables s day first (i + 1)
   unfolding isReached
   reach-next z l =
       let date = dateAt column (rowAt tables s i) in
@@ -65,27 +64,23 @@ module _ {column : ℕ} {tables : List ℕ} {s day i : ℕ} (k : Reaching column
         rest = k .rest ∙ rw (leading-here, lt-ltb 0 date n, le-leb date day (omega arith), add-one) (omega arith);
       }
 
-pub reach-end : {column : ℕ} {tables : List ℕ} {s day i : ℕ} → Reaching column tables s day i → 16 ≤ i → i ≡ reachedRows column tables s day
+pub reach-end : {column : ℕ} {tables : List ℕ} {s day first i : ℕ} → Reaching column tables s day first i → 16 ≤ i
+    → i ≡ reachedFrom column tables s day first
 unfolding leading
-reach-end {column} {tables} {s} {day} {i} k h =
+reach-end {column} {tables} {s} {day} {first} {i} k h =
     let none : drop i (rowsOf (securityOf tables s)) ≡ [] = drop-of-length-le _ {i = i} (omega (arith, length-rows-of tables s)) in
     sym (k .rest ∙ rw none (add-zero i))
 
 -- ---- the end of the interim rows
 
-module _ (tables : List ℕ) (s day : ℕ) {n : ℕ} (e : n ≡ reachedRows 1 tables s day) where
+module _ (tables : List ℕ) (s day : ℕ) {n : ℕ} (e : n ≡ reachedRows tables s day) where
   pub end-other : isMbs (typeOf (securityOf tables s)) ≡ false → n ≡ interimEnd tables s day
   unfolding interimEnd
   end-other q = rw q e
 
-  module _ {m : ℕ} (o : m ≡ reachedRows 0 tables s day) where
-    pub end-none : m ≤ n → n ≡ interimEnd tables s day
-    unfolding interimEnd
-    end-none h = rw (← o, ← e, le-ltb n m h, and-false (isMbs (typeOf (securityOf tables s))))
-
-    pub end-some : isMbs (typeOf (securityOf tables s)) ≡ true → n < m → m ≡ interimEnd tables s day
-    unfolding interimEnd
-    end-some q h = rw (← o, ← e, q, lt-ltb n m h)
+  pub end-mbs : {m : ℕ} → isMbs (typeOf (securityOf tables s)) ≡ true → m ≡ reachedFrom 0 tables s day n → m ≡ interimEnd tables s day
+  unfolding interimEnd
+  end-mbs q o = rw (q, ← e) o
 
 -- ---- a pass over rows
 
@@ -130,31 +125,18 @@ words-row tables s i =
 pub seven-words : (tables : List ℕ) (s i : ℕ) → length tables ≡ 1824 → s < 16 → i < 16 → length (wordsAt tables s i) ≡ 7
 seven-words tables s i l h k = simp (length-take, length-drop) (omega arith)
 
-pub claimable : {calendar tables : List ℕ} {t : Transfer} (i : ℕ) {par : ℕ} → Claiming calendar tables t (i + 1) → t .par ≤ 9000000000 → par ≡ t .par
+pub claimable : {calendar tables : List ℕ} {t : Transfer} (i : ℕ) {par : ℕ} → Claiming calendar tables t → i < 16 → t .par ≤ 9000000000 → par ≡ t .par
     → Claimable calendar tables (t .security) (t .sender) par (wordsAt tables (t .security) i)
 unfolding rowOf
-claimable {calendar} {tables} {t} i f h e =
+claimable {calendar} {tables} {t} i f k h e =
     let row = words-row tables (t .security) i in
     record {
       months = f .months;
       words = f .words;
-      seven = seven-words tables (t .security) i (f .words) (f .held) (omega (arith, f .rows));
+      seven = seven-words tables (t .security) i (f .words) (f .held) k;
       held = f .held;
       paying = f .paying;
       small = omega arith;
-      interest = subst (λ (r : Row). r .interestFactor ≤ 2000000000) (sym row) (f .interest i (omega arith));
-      principal = subst (λ (r : Row). r .principalFactor ≤ 2000000000) (sym row) (f .principal i (omega arith));
-    }
-
--- what claims on n rows ask, claims on fewer do too
-pub claiming-below : {calendar tables : List ℕ} {t : Transfer} {m n : ℕ} → m ≤ n → Claiming calendar tables t n → Claiming calendar tables t m
-claiming-below h f =
-    record {
-      months = f .months;
-      words = f .words;
-      held = f .held;
-      paying = f .paying;
-      rows = omega (arith, f .rows);
-      interest = λ i k. f .interest i (omega arith);
-      principal = λ i k. f .principal i (omega arith);
+      interest = subst (λ (r : Row). r .interestFactor ≤ 2000000000) (sym row) (f .interest i k);
+      principal = subst (λ (r : Row). r .principalFactor ≤ 2000000000) (sym row) (f .principal i k);
     }

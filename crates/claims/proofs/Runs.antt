@@ -12,21 +12,21 @@ use Rattle.lists.specs.Tabulate.{each, eachOf}
 
 -- ---- for each element
 
--- one for each element that passes a test
-pub select-each : {A B : Type 0} (p : A → Bool) (f : A → B) (xs : List A) → map f (select p xs) ≡ eachOf xs (λ x. cond (p x) (f x ∷ []) [])
-unfolding select eachOf
-select-each p f [] = refl
-select-each p f (x ∷ xs) = go (p x) (select-each p f xs)
-  where
-    go : (b : Bool) → map f (select p xs) ≡ eachOf xs (λ x. cond (p x) (f x ∷ []) [])
-        → map f (cond b (x ∷ select p xs) (select p xs)) ≡ cond b (f x ∷ []) [] ++ eachOf xs (λ x. cond (p x) (f x ∷ []) [])
-    go true ih = ap (_∷_ (f x)) ih
-    go false ih = ih
-
 pub map-each : {A B : Type 0} (f : A → B) (xs : List A) → map f xs ≡ eachOf xs (λ x. f x ∷ [])
 unfolding eachOf
 map-each f [] = refl
 map-each f (x ∷ xs) = ap (_∷_ (f x)) (map-each f xs)
+
+-- a run for each element that passes a test
+pub each-select : {A B : Type 0} (p : A → Bool) (f : A → List B) (xs : List A) → eachOf (select p xs) f ≡ eachOf xs (λ x. cond (p x) (f x) [])
+unfolding eachOf select
+each-select p f [] = refl
+each-select p f (x ∷ xs) = go (p x) (each-select p f xs)
+  where
+    go : (b : Bool) → eachOf (select p xs) f ≡ eachOf xs (λ x. cond (p x) (f x) [])
+        → eachOf (cond b (x ∷ select p xs) (select p xs)) f ≡ cond b (f x) [] ++ eachOf xs (λ x. cond (p x) (f x) [])
+    go true ih = ap (λ (r : List _). f x ++ r) ih
+    go false ih = ih
 
 module _ {A B : Type 0} (f : A → List B) where
   each-of-append : (xs ys : List A) → eachOf (xs ++ ys) f ≡ eachOf xs f ++ eachOf ys f

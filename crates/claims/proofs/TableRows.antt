@@ -15,14 +15,15 @@ use Rattle.lists.specs.Fields.{part, part-take}
 use Rattle.lists.specs.Select.{rising, all-drop, rising-select}
 use Rattle.days.specs.Days.{lastOpen}
 use Rattle.securities.specs.Securities.{securityOf, typeOf, frequencyOf, Row, rowOf, rowsFrom, rowsOf, isEmpty, isFilled, filledRows, goodRows, goodSecurity, goodTables}
+use Rattle.securities.proofs.Sound.{zero-at, zeros-empty}
 use Rattle.claims.specs.Reached.{rowAt, dateAt}
 
 -- ---- a row in its place
 
 -- a row is its seven words alone
-row-words : (i : ℕ) (words : List ℕ) → rowOf i (take 7 words) ≡ rowOf i words
+pub row-part : (i : ℕ) (words : List ℕ) → rowOf i (take 7 words) ≡ rowOf i words
 unfolding rowOf
-row-words i words =
+row-part i words =
     rw (getD-take 7 words 0 0 (omega arith), getD-take 7 words 1 0 (omega arith), getD-take 7 words 2 0 (omega arith), getD-take 7 words 3 0 (omega arith), getD-take 7 words 4 0 (omega arith), getD-take 7 words 5 0 (omega arith), getD-take 7 words 6 0 (omega arith))
 
 pub rows-length : (n i : ℕ) (words : List ℕ) → length (rowsFrom n i words) ≡ n
@@ -48,7 +49,7 @@ rows-of-at tables s i d h =
     rows-from-at 16 0 (drop 2 (take 114 from)) i d h
     ∙ ap (λ (k : ℕ). rowOf k (drop (7 * i) (drop 2 (take 114 from)))) (zero-add i)
     ∙ ap (λ (words : List ℕ). rowOf i words) (drop-drop (7 * i) 2 (take 114 from))
-    ∙ sym (row-words i (drop (2 + 7 * i) (take 114 from)))
+    ∙ sym (row-part i (drop (2 + 7 * i) (take 114 from)))
     ∙ ap (λ (words : List ℕ). rowOf i words) (part-take (2 + 7 * i) 7 114 from (omega arith) ∙ ap (take 7) (drop-drop (2 + 7 * i) (114 * s) tables))
     ∙ ap (λ (k : ℕ). rowOf i (part k 7 tables)) a
 
@@ -90,24 +91,6 @@ pub rising-numbers : (tables : List ℕ) (s : ℕ) → rising (λ row. row .inde
 unfolding filledRows rowsOf
 rising-numbers tables s = rising-select (λ (row : Row). row .index) isFilled _ (rising-rows 16 0 (drop 2 (securityOf tables s)))
 
--- ---- unused securities
-
-zero-at : (words : List ℕ) (k : ℕ) → all (λ w. eqb w 0) words ≡ true → eqb (getD words k 0) 0 ≡ true
-unfolding all
-zero-at [] k t = refl
-zero-at (w ∷ ws) zero t = and-left (eqb w 0) (all (λ w. eqb w 0) ws) t
-zero-at (w ∷ ws) (suc k) t = zero-at ws k (and-right (eqb w 0) (all (λ w. eqb w 0) ws) t)
-
-zeros-row : (i : ℕ) (words : List ℕ) → all (λ w. eqb w 0) words ≡ true → isEmpty (rowOf i words) ≡ true
-unfolding rowOf isEmpty
-zeros-row i words t =
-    rw (zero-at words 0 t, zero-at words 1 t, zero-at words 2 t, zero-at words 3 t, zero-at words 4 t, zero-at words 5 t, zero-at words 6 t)
-
-zeros-empty : (n i : ℕ) (words : List ℕ) → all (λ w. eqb w 0) words ≡ true → all isEmpty (rowsFrom n i words) ≡ true
-unfolding all rowsFrom
-zeros-empty zero i words t = refl
-zeros-empty (suc n) i words t = and-both (zeros-row i words t) (zeros-empty n (suc i) (drop 7 words) (all-drop _ 7 words t))
-
 -- ---- the rules of a security of sound tables
 
 -- empty rows keep the rules
@@ -122,30 +105,28 @@ module _ (calendar tables : List ℕ) (s : ℕ) (t : goodTables calendar tables 
   unfolding goodTables
   good-security = below-at (λ s. goodSecurity (lastOpen calendar) (securityOf tables s)) 16 t s h
 
-  pub good-rows : goodRows (lastOpen calendar) 0 0 (rowsOf (securityOf tables s)) ≡ true
-  unfolding goodSecurity
-  good-rows = go (eqb (typeOf words) 0) good-security
-    where
-      words : List ℕ
-      words = securityOf tables s
+  words : List ℕ
+  words = securityOf tables s
 
+  -- an unused security has empty rows and frequency 0
+  rules : (goodRows (lastOpen calendar) 0 0 (rowsOf words) ≡ true) × (frequencyOf words ≤ 4)
+  unfolding goodSecurity words
+  rules = go (eqb (typeOf words) 0) good-security
+    where
       go : (b : Bool)
           → cond b (all (λ w. eqb w 0) words)
           (leb (typeOf words) 4 && leb 1 (frequencyOf words) && leb (frequencyOf words) 4 && goodRows (lastOpen calendar) 0 0 (rowsOf words)) ≡ true
-          → goodRows (lastOpen calendar) 0 0 (rowsOf words) ≡ true
-      go true e = unfold rowsOf in good-empty (lastOpen calendar) 0 0 _ (zeros-empty 16 0 (drop 2 words) (all-drop _ 2 words e))
-      go false e = search (and-left, and-right, e) depth 8
+          → (goodRows (lastOpen calendar) 0 0 (rowsOf words) ≡ true) × (frequencyOf words ≤ 4)
+      go true e = (
+        unfold rowsOf in good-empty (lastOpen calendar) 0 0 _ (zeros-empty 16 0 (drop 2 words) (all-drop _ 2 words e)),
+        unfold frequencyOf in let z = eqb-true (getD words 1 0) 0 (zero-at words 1 e) in omega arith,
+      )
+      go false e = (search (and-left, and-right, e) depth 8, leb-true (frequencyOf words) 4 (search (and-left, and-right, e) depth 8))
+
+  pub good-rows : goodRows (lastOpen calendar) 0 0 (rowsOf (securityOf tables s)) ≡ true
+  unfolding words
+  good-rows = rules .0
 
   pub small-frequency : frequencyOf (securityOf tables s) ≤ 4
-  unfolding goodSecurity
-  small-frequency = go (eqb (typeOf words) 0) good-security
-    where
-      words : List ℕ
-      words = securityOf tables s
-
-      go : (b : Bool)
-          → cond b (all (λ w. eqb w 0) words)
-          (leb (typeOf words) 4 && leb 1 (frequencyOf words) && leb (frequencyOf words) 4 && goodRows (lastOpen calendar) 0 0 (rowsOf words)) ≡ true
-          → frequencyOf words ≤ 4
-      go true e = unfold frequencyOf in let z = eqb-true (getD words 1 0) 0 (zero-at words 1 e) in omega arith
-      go false e = leb-true (frequencyOf words) 4 (search (and-left, and-right, e) depth 8)
+  unfolding words
+  small-frequency = rules .1

@@ -7,7 +7,7 @@ use native.Mathlib.Nat.{add-zero, add-suc, suc-add, zero-add}
 use native.Mathlib.Omega.{arith}
 use lib.Dec.{ltb}
 use lib.ListN.{length, getD, take, drop}
-use lib.Seq.{getD-take, drop-drop}
+use lib.Seq.{drop-drop}
 use borrow.Author.Tests.{lt-ltb, le-ltb, le-leb, lt-leb, ltb-true, leb-true, ne-eqb}
 use Rattle.lists.specs.Tests.{and-left, and-right}
 use Rattle.lists.specs.All.{all, all-at}
@@ -21,6 +21,8 @@ use Rattle.securities.proofs.Sound.{Good, good-row, sound-rows}
 use Rattle.claims.specs.Amounts.{Parties, claimOn}
 use Rattle.claims.specs.Close.{crosses, crossed, loanClaim, securityBalances, lenderBalances, rowClaims, closeClaims}
 use Rattle.claims.specs.Passes.{each-few}
+use Rattle.claims.proofs.Runs.{each-select, each-agree}
+use Rattle.claims.proofs.TableRows.{row-part}
 use Rattle.claims.specs.Turns.{small, Ready, Sound, lenderClaims, turnClaims, securityClaims}
 
 -- ---- one borrower
@@ -103,27 +105,11 @@ turn-few calendar tables day next s held row = go (crosses day next row)
     go true = omega (arith, row-few calendar tables day s held row)
     go false = omega arith
 
--- a run for each element that passes a test
-each-select : {A : Type 0} (p : A → Bool) (f : A → List Claim) (xs : List A) → eachOf (select p xs) f ≡ eachOf xs (λ x. cond (p x) (f x) [])
-unfolding eachOf select
-each-select p f [] = refl
-each-select p f (x ∷ xs) = go (p x) (each-select p f xs)
-  where
-    go : (b : Bool) → eachOf (select p xs) f ≡ eachOf xs (λ x. cond (p x) (f x) [])
-        → eachOf (cond b (x ∷ select p xs) (select p xs)) f ≡ cond b (f x) [] ++ eachOf xs (λ x. cond (p x) (f x) [])
-    go true e = ap (λ (l : List Claim). f x ++ l) e
-    go false e = e
-
 -- a run for each place, from the front
 each-front : (n : ℕ) (f : ℕ → List Claim) → each (suc n) f ≡ f 0 ++ each n (λ i. f (suc i))
 unfolding each
 each-front zero f = sym (append-nil (f 0))
 each-front (suc n) f = ap (λ (l : List Claim). l ++ f (suc n)) (each-front n f) ∙ append-assoc (f 0) (each n (λ i. f (suc i))) (f (suc n))
-
-each-same : (n : ℕ) (f g : ℕ → List Claim) → ((i : ℕ) → f i ≡ g i) → each n f ≡ each n g
-unfolding each
-each-same zero f g h = refl
-each-same (suc n) f g h = ap₂ (λ (a b : List Claim). a ++ b) (each-same n f g h) (h n)
 
 -- a run for each row of words
 each-row : (n i : ℕ) (words : List ℕ) (f : Row → List Claim) → eachOf (rowsFrom n i words) f ≡ each n (λ j. f (rowOf (i + j) (drop (7 * j) words)))
@@ -132,32 +118,10 @@ each-row zero i words f = unfold each in refl
 each-row (suc n) i words f =
     ap₂ (λ (a b : List Claim). a ++ b) (ap (λ (k : ℕ). f (rowOf k words)) (sym (add-zero i)))
     (each-row n (suc i) (drop 7 words) f
-    ∙ each-same n _ _ (λ j. let e : 7 + 7 * j ≡ 7 * suc j = omega arith in
+    ∙ each-agree _ _ n (λ j h. let e : 7 + 7 * j ≡ 7 * suc j = omega arith in
     ap₂ (λ (k : ℕ) (ws : List ℕ). f (rowOf k ws)) (suc-add i j ∙ sym (add-suc i j))
     (drop-drop (7 * j) 7 words ∙ ap (λ (k : ℕ). drop k words) e)))
     ∙ sym (each-front n (λ j. f (rowOf (i + j) (drop (7 * j) words))))
-
--- a row sees only its own seven words
-pub row-part : (index : ℕ) (words : List ℕ) → rowOf index (take 7 words) ≡ rowOf index words
-unfolding rowOf
-row-part index words =
-    let a0 = getD-take 7 words 0 0 (omega arith) in
-    let a1 = getD-take 7 words 1 0 (omega arith) in
-    let a2 = getD-take 7 words 2 0 (omega arith) in
-    let a3 = getD-take 7 words 3 0 (omega arith) in
-    let a4 = getD-take 7 words 4 0 (omega arith) in
-    let a5 = getD-take 7 words 5 0 (omega arith) in
-    let a6 = getD-take 7 words 6 0 (omega arith) in
-    λ i. record {
-      index = index;
-      recordDate = a0 i;
-      beneficiaryDate = a1 i;
-      paymentDate = a2 i;
-      interestFactor = a3 i;
-      principalFactor = a4 i;
-      final = a5 i;
-      mask = a6 i;
-    }
 
 -- a row that is crossed is filled
 crossed-filled : (day next : ℕ) (row : Row) → crosses day next row ≡ true → isFilled row ≡ true
@@ -178,7 +142,7 @@ security-turns calendar tables day next s held e =
     (ap (λ (l : List Row). eachOf l (rowClaims calendar tables day s held)) (select-both (crosses day next) isFilled (rowsFrom 16 0 words))
     ∙ each-select _ _ (rowsFrom 16 0 words)
     ∙ each-row 16 0 words _
-    ∙ each-same 16 _ _ (λ i. one i))
+    ∙ each-agree _ _ 16 (λ i h. one i))
   where
     test : (row : Row) → cond (crosses day next row && isFilled row) (rowClaims calendar tables day s held row) []
         ≡ cond (crosses day next row) (rowClaims calendar tables day s held row) []

@@ -32,6 +32,12 @@ isMbs type = leb 3 type
 unfoldable pub maximumFor : List ℕ → ℕ → ℕ → ℕ
 maximumFor numbers type frequency = cond (isMbs type) (getD numbers 0 0) (getD numbers frequency 0)
 
+-- The published maximum number of a security.
+unfoldable pub maximumOf : List ℕ → ℕ → ℕ
+maximumOf tables s =
+    let words = securityOf tables s in
+    maximumFor maximumNumbers (typeOf words) (frequencyOf words)
+
 -- Of the rows with Beneficiary Date on or before the day, the most recent up to a maximum number; of these, each with a Beneficiary
 -- Date after the Contract Date, in table order.
 unfoldable pub eligibleIn : ℕ → ℕ → ℕ → List Row → List Row
@@ -40,9 +46,7 @@ eligibleIn maximum contract day rows =
 
 -- The eligible rows of a transfer's security, for its tag.
 unfoldable pub eligible : List ℕ → ℕ → Transfer → Tag → List Row
-eligible tables day t tag =
-    let words = securityOf tables (t .security) in
-    eligibleIn (maximumFor maximumNumbers (typeOf words) (frequencyOf words)) (contractDate tag) day (filledRows tables (t .security))
+eligible tables day t tag = eligibleIn (maximumOf tables (t .security)) (contractDate tag) day (filledRows tables (t .security))
 
 -- ---- interim rows
 

@@ -5,7 +5,7 @@ use mathlib.Core.Bool.{Bool, cond, _&&_}
 use mathlib.Core.List.{List, [], _∷_}
 use Prim.Native.Nat.{ℕ, zero, suc, _+_, _*_, _≤_, _<_}
 use lib.Dec.{ltb, leb}
-use lib.ListN.{length}
+use lib.ListN.{length, drop}
 use Rattle.lists.specs.Fields.{part}
 use Rattle.records.specs.declared.Transfer.{Transfer}
 use Rattle.securities.specs.Securities.{securityOf, typeOf, Row, rowOf, rowsOf}
@@ -31,25 +31,27 @@ dateAt (suc column) row = row .beneficiaryDate
 unfoldable pub isReached : ℕ → ℕ → Row → Bool
 isReached column day row = ltb 0 (dateAt column row) && leb (dateAt column row) day
 
--- How many rows of a security, from the first on, the day has reached by that date.
-unfoldable pub reachedRows : ℕ → List ℕ → ℕ → ℕ → ℕ
-reachedRows column tables s day = leading (isReached column day) (rowsOf (securityOf tables s))
+-- The row behind those of a security, from a first one on, that the day has reached by that date.
+unfoldable pub reachedFrom : ℕ → List ℕ → ℕ → ℕ → ℕ → ℕ
+reachedFrom column tables s day first = first + leading (isReached column day) (drop first (rowsOf (securityOf tables s)))
 
--- The row behind the interim rows, which begin at the first row whose Beneficiary Date the day has not reached.
+-- How many rows of a security the day has reached by Beneficiary Date; they come first.
+unfoldable pub reachedRows : List ℕ → ℕ → ℕ → ℕ
+reachedRows tables s day = reachedFrom 1 tables s day 0
+
+-- The row behind the interim rows: of MBS those behind the reached ones that the day has reached by Record Date.
 unfoldable pub interimEnd : List ℕ → ℕ → ℕ → ℕ
 interimEnd tables s day =
-    let reached = reachedRows 1 tables s day in
-    let recorded = reachedRows 0 tables s day in
-    cond (isMbs (typeOf (securityOf tables s)) && ltb reached recorded) recorded reached
+    let reached = reachedRows tables s day in
+    cond (isMbs (typeOf (securityOf tables s))) (reachedFrom 0 tables s day reached) reached
 
 -- ---- claims on rows
 
--- What claims on the first n rows of a transfer's security ask: words of their lengths, a security and a sender of the book, and factors in range.
-pub record Claiming (calendar tables : List ℕ) (t : Transfer) (n : ℕ) : Type 0 where
+-- What claims on the rows of a transfer's security ask: words of their lengths, a security and a sender of the book, and factors in range.
+pub record Claiming (calendar tables : List ℕ) (t : Transfer) : Type 0 where
   pub months : length calendar ≡ 480
   pub words : length tables ≡ 1824
   pub held : t .security < 16
   pub paying : t .sender < 16
-  pub rows : n ≤ 16
-  pub interest : (i : ℕ) → i < n → rowAt tables (t .security) i .interestFactor ≤ 2000000000
-  pub principal : (i : ℕ) → i < n → rowAt tables (t .security) i .principalFactor ≤ 2000000000
+  pub interest : (i : ℕ) → i < 16 → rowAt tables (t .security) i .interestFactor ≤ 2000000000
+  pub principal : (i : ℕ) → i < 16 → rowAt tables (t .security) i .principalFactor ≤ 2000000000

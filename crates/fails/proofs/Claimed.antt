@@ -11,16 +11,15 @@ use Rattle.lists.specs.Select.{select}
 use Rattle.lists.specs.Tabulate.{each}
 use Rattle.records.specs.declared.Claim.{Claim}
 use Rattle.records.specs.declared.Transfer.{Transfer}
-use Rattle.securities.specs.Securities.{securityOf, typeOf, frequencyOf, Row, rowsOf, goodTables}
+use Rattle.securities.specs.Securities.{securityOf, Row, rowsOf, goodTables}
 use Rattle.tags.specs.declared.Tag.{Tag}
 use Rattle.days.specs.declared.Date.{Date}
 use Rattle.tags.specs.declared.Tag.the-variants.{On}
 use Rattle.tags.specs.ContractDateTag.{tagged, contractDate}
 use Rattle.claims.specs.Amounts.{failType, interimType}
-use Rattle.claims.specs.Fails.{maximumNumbers, maximumFor, eligible, transferClaims}
+use Rattle.claims.specs.Fails.{maximumOf, eligible, transferClaims}
 use Rattle.claims.specs.Reached.{reachedRows, interimEnd, Claiming}
 use Rattle.claims.proofs.Reached.{claimed, none-by-code, claims-by-rows, reached-end, claiming, eligible-window, interim-window}
-use Rattle.claims.proofs.RowLoops.{claiming-below}
 use Rattle.fails.specs.declared.Recent.{Recent}
 use Rattle.fails.specs.Recent.{noRows, firstRow, recentRows, recentClaims}
 use Rattle.fails.proofs.Due.{due-each}
@@ -32,14 +31,14 @@ module _ (tables : List ℕ) (day : ℕ) (t : Transfer) (tag : Tag) where
   unfolding recentRows
   rows-by-code h = rw (ne-eqb (t .code) 0 h) refl
 
-  module _ {n k : ℕ} (z : t .code ≡ 0) (e : n ≡ reachedRows 1 tables (t .security) day) (q : k ≡ interimEnd tables (t .security) day) where
+  module _ {n k : ℕ} (z : t .code ≡ 0) (e : n ≡ reachedRows tables (t .security) day) (q : k ≡ interimEnd tables (t .security) day) where
     pub rows-untagged : tagged tag ≡ false → contractDate tag ≡ 0
         → _≡_ {A = Recent} (record { after = 0; first = n; reached = n; end = k }) (recentRows tables day t tag)
     unfolding recentRows firstRow
     rows-untagged u d = rw (eq-eqb (t .code) 0 z, u, d, e, q) refl
 
     pub rows-tagged : {date : Date} {m first : ℕ} → tag ≡ On date
-        → m ≡ maximumFor maximumNumbers (typeOf (securityOf tables (t .security))) (frequencyOf (securityOf tables (t .security))) → first ≡ n - m
+        → m ≡ maximumOf tables (t .security) → first ≡ n - m
         → _≡_ {A = Recent} (record { after = date .0; first = first; reached = n; end = k }) (recentRows tables day t tag)
     unfolding recentRows firstRow tagged contractDate
     rows-tagged g o p = rw (g, eq-eqb (t .code) 0 z, p, e, q, o) refl
@@ -50,7 +49,8 @@ module _ (tables : List ℕ) (day : ℕ) (t : Transfer) (tag : Tag) where
 pub record Recently (calendar tables : List ℕ) (day number : ℕ) (t : Transfer) (tag : Tag) (rows : Recent) : Type 0 where
   pub claims : transferClaims calendar tables day number t tag ≡ recentClaims calendar tables day number t rows
   pub order : rows .first ≤ rows .end
-  pub asks : length calendar ≡ 480 → length tables ≡ 1824 → t .sender < 16 → Claiming calendar tables t (rows .end)
+  pub few : rows .end ≤ 16
+  pub asks : length calendar ≡ 480 → length tables ≡ 1824 → t .sender < 16 → Claiming calendar tables t
 
 module _ (calendar tables : List ℕ) (day number : ℕ) (t : Transfer) (sound : goodTables calendar tables ≡ true) (held : t .security < 16) where
   other-code : (tag : Tag) → (t .code ≡ 0 → ⊥) → Recently calendar tables day number t tag noRows
@@ -59,7 +59,8 @@ module _ (calendar tables : List ℕ) (day number : ℕ) (t : Transfer) (sound :
       record {
         claims = none-by-code calendar tables day number t tag h;
         order = omega arith;
-        asks = λ c l p. claiming-below (omega arith) (claiming calendar tables day t sound held c l p);
+        few = omega arith;
+        asks = claiming calendar tables day t sound held;
       }
 
   module _ (tag : Tag) where
@@ -67,7 +68,7 @@ module _ (calendar tables : List ℕ) (day number : ℕ) (t : Transfer) (sound :
     rows = rowsOf (securityOf tables (t .security))
 
     abbrev reached : ℕ
-    reached = reachedRows 1 tables (t .security) day
+    reached = reachedRows tables (t .security) day
 
     abbrev first : ℕ
     first = firstRow tables day t tag
@@ -79,7 +80,7 @@ module _ (calendar tables : List ℕ) (day number : ℕ) (t : Transfer) (sound :
     unfolding firstRow
     first-reached = go (tagged tag)
       where
-        go : (b : Bool) → cond b (reached - maximumFor maximumNumbers (typeOf (securityOf tables (t .security))) (frequencyOf (securityOf tables (t .security)))) reached ≤ reached
+        go : (b : Bool) → cond b (reached - maximumOf tables (t .security)) reached ≤ reached
         go true = omega arith
         go false = omega arith
 
@@ -89,11 +90,11 @@ module _ (calendar tables : List ℕ) (day number : ℕ) (t : Transfer) (sound :
     unfolding firstRow select
     fail-window = go (tagged tag)
       where
-        maximum : ℕ
-        maximum = maximumFor maximumNumbers (typeOf (securityOf tables (t .security))) (frequencyOf (securityOf tables (t .security)))
+        start : Bool → ℕ
+        start b = cond b (reached - maximumOf tables (t .security)) reached
 
         go : (b : Bool) → cond b (map (claim failType) (eligible tables day t tag)) []
-            ≡ map (claim failType) (select (λ row. ltb (contractDate tag) (row .beneficiaryDate)) (take (reached - cond b (reached - maximum) reached) (drop (cond b (reached - maximum) reached) rows)))
+            ≡ map (claim failType) (select (λ row. ltb (contractDate tag) (row .beneficiaryDate)) (take (reached - start b) (drop (start b) rows)))
         go true = ap (map (claim failType)) (eligible-window calendar tables day t sound held tag)
         go false =
             let z : 0 ≡ reached - reached = omega arith in
@@ -109,6 +110,7 @@ module _ (calendar tables : List ℕ) (day number : ℕ) (t : Transfer) (sound :
               ∙ ap₂ (λ (x y : List Claim). x ++ y) fail-window (ap (map (claim interimType)) (interim-window calendar tables day t sound held))
               ∙ due-each calendar tables day number t w first-reached (ends .0) (ends .1);
           order = omega (arith, first-reached, ends .0);
+          few = ends .1;
           asks = claiming calendar tables day t sound held;
         }
 

@@ -15,7 +15,7 @@ use Rattle.securities.specs.Securities.{securityOf, Row, rowOf, rowsOf}
 use Rattle.claims.specs.Amounts.{failType, interimType, claimOn}
 use Rattle.claims.specs.Fails.{transferParties}
 use Rattle.claims.specs.Reached.{rowAt}
-use Rattle.claims.proofs.Runs.{select-each, map-each, each-of-take, each-agree, each-append}
+use Rattle.claims.proofs.Runs.{map-each, each-select, each-of-take, each-agree, each-append}
 use Rattle.claims.proofs.TableRows.{length-rows-of, row-behind}
 use Rattle.claims.proofs.Reached.{claimed}
 use Rattle.claims.proofs.RowLoops.{wordsAt, words-row}
@@ -73,7 +73,8 @@ module _ (calendar tables : List ℕ) (day number : ℕ) (t : Transfer) (w : Rec
     fail-part : map (claim failType) (select after (take (w .reached - w .first) (drop (w .first) rows)))
         ≡ each (w .reached - w .first) (λ j. dueAt (w .first + j))
     fail-part =
-        select-each after (claim failType) _
+        map-each (claim failType) _
+        ∙ each-select after (λ row. claim failType row ∷ []) _
         ∙ each-of-take _ (drop (w .first) rows) (here 0) (w .reached - w .first) (long (w .first) (w .reached) a (omega arith))
         ∙ each-agree _ _ (w .reached - w .first) (λ j h.
         ap (λ (row : Row). cond (after row) (claim failType row ∷ []) []) (row-behind tables (t .security) (w .first) j (here 0) (omega arith))

@@ -7,11 +7,11 @@ use lib.Dec.{eqb, ltb}
 use Rattle.lists.specs.Tabulate.{each}
 use Rattle.records.specs.declared.Claim.{Claim}
 use Rattle.records.specs.declared.Transfer.{Transfer}
-use Rattle.securities.specs.Securities.{securityOf, typeOf, frequencyOf, Row}
+use Rattle.securities.specs.Securities.{Row}
 use Rattle.tags.specs.declared.Tag.{Tag}
 use Rattle.tags.specs.ContractDateTag.{tagged, contractDate}
 use Rattle.claims.specs.Amounts.{failType, interimType, claimOn}
-use Rattle.claims.specs.Fails.{maximumNumbers, maximumFor, transferParties}
+use Rattle.claims.specs.Fails.{maximumOf, transferParties}
 use Rattle.claims.specs.Reached.{rowAt, reachedRows, interimEnd}
 use Rattle.fails.specs.declared.Recent.{Recent}
 
@@ -25,15 +25,15 @@ noRows = record { after = 0; first = 0; reached = 0; end = 0 }
 -- the published maximum number; without a tag none does.
 unfoldable pub firstRow : List ℕ → ℕ → Transfer → Tag → ℕ
 firstRow tables day t tag =
-    let words = securityOf tables (t .security) in
-    let reached = reachedRows 1 tables (t .security) day in
-    cond (tagged tag) (reached - maximumFor maximumNumbers (typeOf words) (frequencyOf words)) reached
+    let reached = reachedRows tables (t .security) day in
+    cond (tagged tag) (reached - maximumOf tables (t .security)) reached
 
 -- The rows of a transfer, with the Contract Date.
 unfoldable pub recentRows : List ℕ → ℕ → Transfer → Tag → Recent
 recentRows tables day t tag =
+    let s = t .security in
     cond (eqb (t .code) 0)
-    (record { after = contractDate tag; first = firstRow tables day t tag; reached = reachedRows 1 tables (t .security) day; end = interimEnd tables (t .security) day })
+    (record { after = contractDate tag; first = firstRow tables day t tag; reached = reachedRows tables s day; end = interimEnd tables s day })
     noRows
 
 -- ---- their claims

@@ -8,7 +8,7 @@ ghost use lib.ListN.{length};
 ghost use Rattle.securities.specs.Securities.{securityOf, frequencyOf, rowOf};
 ghost use Rattle.claims.specs.Fails.{maximumNumbers, isMbs, maximumFor};
 ghost use Rattle.claims.specs.Passes.{Free, Passed};
-ghost use Rattle.claims.specs.Reached.{rowAt, reachedRows, interimEnd, Claiming};
+ghost use Rattle.claims.specs.Reached.{rowAt, reachedFrom, reachedRows, interimEnd, Claiming};
 ghost use Rattle.fails.specs.Recent.{noRows, recentRows, dueType, dueClaim, recentClaims};
 use records::Transfer;
 use tags::Tag;
@@ -52,12 +52,12 @@ fn maximum_for(security_type: u32, frequency: u32) -> u8
     MAXIMUM_NUMBERS[frequency as usize]
 }
 
-// How many rows of a security, from the first on, the day has reached by the date in a word of the row.
-fn reached_rows(tables: &[u32], security: u8, day: u32, column: usize) -> u8
-    requires { ⌜ (length (now tables) ≡ 1824) × (security < 16) × (column < 2) ⌝ }
-    ensures { λ r. ⌜ r ≡ reachedRows column (now (tables .entry)) security day ⌝ }
+// The row behind those of a security, from a first one on, that the day has reached by the date in a word of the row.
+fn reached_rows(tables: &[u32], security: u8, day: u32, column: usize, first: u8) -> u8
+    requires { ⌜ (length (now tables) ≡ 1824) × (security < 16) × (column < 2) × (first ≤ 16) ⌝ }
+    ensures { λ r. ⌜ r ≡ reachedFrom column (now (tables .entry)) security day first ⌝ }
 {
-    let mut i: u8 = 0;
+    let mut i = first;
     while i < 16 {
         let date = tables[114 * (security as usize) + 2 + 7 * (i as usize) + column];
         if date == 0 {
@@ -73,17 +73,13 @@ fn reached_rows(tables: &[u32], security: u8, day: u32, column: usize) -> u8
 
 // The row behind the interim rows, which begin behind the rows that the day has reached by Beneficiary Date.
 fn interim_end(tables: &[u32], security: u8, day: u32, reached: u8) -> u8
-    requires { ⌜ (length (now tables) ≡ 1824) × (security < 16) × (reached ≡ reachedRows 1 (now tables) security day) ⌝ }
+    requires { ⌜ (length (now tables) ≡ 1824) × (security < 16) × (reached ≡ reachedRows (now tables) security day) ⌝ }
     ensures { λ r. ⌜ r ≡ interimEnd (now (tables .entry)) security day ⌝ }
 {
     if !is_mbs(securities::security_type(tables, security as usize)) {
         return reached;
     }
-    let recorded = reached_rows(tables, security, day, RECORD_DATE);
-    if recorded <= reached {
-        return reached;
-    }
-    recorded
+    reached_rows(tables, security, day, RECORD_DATE, reached)
 }
 
 // The first of the last rows, up to a maximum number, of n.
@@ -116,7 +112,7 @@ pub fn recent_rows(tables: &[u32], day: u32, t: Transfer, tag: Tag) -> Recent
     if t.code != 0 {
         return no_rows();
     }
-    let reached = reached_rows(tables, t.security, day, BENEFICIARY_DATE);
+    let reached = reached_rows(tables, t.security, day, BENEFICIARY_DATE, 0);
     let end = interim_end(tables, t.security, day, reached);
     let Tag::On(date) = tag else {
         return Recent {
@@ -147,7 +143,7 @@ fn due_type(rows: Recent, index: u8, row: &[u32]) -> u8
     if rows.reached <= index {
         return amounts::INTERIM;
     }
-    if row[1] <= rows.after {
+    if row[BENEFICIARY_DATE] <= rows.after {
         return NONE;
     }
     amounts::FAIL
@@ -166,7 +162,7 @@ fn pass_row(
     rows: Recent,
     index: u8,
 ) -> usize
-    requires { ⌜ Claiming (now calendar) (now tables) t (index + 1) × Free write (now buffer) n (dueClaim (now calendar) (now tables) day number t rows (rowAt (now tables) (t .security) index)) ⌝ }
+    requires { ⌜ Claiming (now calendar) (now tables) t × (index < 16) × Free write (now buffer) n (dueClaim (now calendar) (now tables) day number t rows (rowAt (now tables) (t .security) index)) ⌝ }
     ensures { λ r. ⌜ Passed write (now (buffer .entry)) (now (buffer .exit)) n r (dueClaim (now (calendar .entry)) (now (tables .entry)) day number t rows (rowAt (now (tables .entry)) (t .security) index)) ⌝ }
 {
     let at = 114 * (t.security as usize) + 2 + 7 * (index as usize);
@@ -206,7 +202,7 @@ pub fn transfer_claims(
     t: Transfer,
     rows: Recent,
 ) -> usize
-    requires { ⌜ (rows .first ≤ rows .end) × Claiming (now calendar) (now tables) t (rows .end) × Free write (now buffer) 0 (recentClaims (now calendar) (now tables) day number t rows) ⌝ }
+    requires { ⌜ Claiming (now calendar) (now tables) t × (rows .first ≤ rows .end) × (rows .end ≤ 16) × Free write (now buffer) 0 (recentClaims (now calendar) (now tables) day number t rows) ⌝ }
     ensures { λ r. ⌜ Passed write (now (buffer .entry)) (now (buffer .exit)) 0 r (recentClaims (now (calendar .entry)) (now (tables .entry)) day number t rows) ⌝ }
 {
     let first = rows.first;

@@ -36,8 +36,9 @@ lentBy es x = parLent es (record { security = x .security; lender = x .payee; bo
 -- it.
 unfoldable pub owedBy : List ℕ → List ℕ → Part → (ℕ → Bool) → List Entry → ℕ → Call → Parties → ℕ
 owedBy calendar tables part rowTest before day (transfer a) x =
-    cond (isFailed (a .message) x) (amounts part rowTest (transferOf (a .message) .par) (eligible tables day (transferOf (a .message)) (messageTag (a .message)))) 0
-    + cond (isSent (a .message) x) (amounts part rowTest (transferOf (a .message) .par) (interim tables day (transferOf (a .message)))) 0
+    let t = transferOf (a .message) in
+    cond (isFailed (a .message) x) (amounts part rowTest (t .par) (eligible tables day t (messageTag (a .message)))) 0
+    + cond (isSent (a .message) x) (amounts part rowTest (t .par) (interim tables day t)) 0
 owedBy calendar tables part rowTest before day (close a) x =
     amounts part rowTest (lentBy before x) (crossed calendar tables day (x .security))
 

@@ -80,7 +80,7 @@ after-one last a b row rows g h k f =
     }
 
 -- empty rows hold no filled one
-none-filled : (rows : List Row) → all isEmpty rows ≡ true → select isFilled rows ≡ []
+pub none-filled : (rows : List Row) → all isEmpty rows ≡ true → select isFilled rows ≡ []
 unfolding all select isFilled
 none-filled [] t = refl
 none-filled (row ∷ rows) t =
@@ -112,7 +112,7 @@ indexes-below zero i words h = refl
 indexes-below (suc n) i words h = and-both (lt-ltb i 16 (omega arith)) (indexes-below n (suc i) (drop 7 words) (omega arith))
 
 -- words of zeros are empty rows
-zero-at : (words : List ℕ) (k : ℕ) → all (λ w. eqb w 0) words ≡ true → eqb (getD words k 0) 0 ≡ true
+pub zero-at : (words : List ℕ) (k : ℕ) → all (λ w. eqb w 0) words ≡ true → eqb (getD words k 0) 0 ≡ true
 unfolding all
 zero-at [] k t = refl
 zero-at (w ∷ ws) zero t = and-left (eqb w 0) (all (λ w. eqb w 0) ws) t
@@ -123,7 +123,7 @@ unfolding rowOf isEmpty
 zeros-row i words t =
     rw (zero-at words 0 t, zero-at words 1 t, zero-at words 2 t, zero-at words 3 t, zero-at words 4 t, zero-at words 5 t, zero-at words 6 t)
 
-zeros-empty : (n i : ℕ) (words : List ℕ) → all (λ w. eqb w 0) words ≡ true → all isEmpty (rowsFrom n i words) ≡ true
+pub zeros-empty : (n i : ℕ) (words : List ℕ) → all (λ w. eqb w 0) words ≡ true → all isEmpty (rowsFrom n i words) ≡ true
 unfolding all rowsFrom
 zeros-empty zero i words t = refl
 zeros-empty (suc n) i words t = and-both (zeros-row i words t) (zeros-empty n (suc i) (drop 7 words) (all-drop _ 7 words t))

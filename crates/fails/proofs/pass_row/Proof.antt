@@ -55,7 +55,7 @@ dollars-requires : tie.Need-dollars-requires
 dollars-requires c κs = search needs
 
 claim-on-requires : tie.Need-claim-on-requires
-claim-on-requires c κs = claimable _ (c .before .before .before .before .before .before .before .before .before .pre .0) (search needs) (c .dollars .ensures)
+claim-on-requires c κs = claimable _ (c .before .before .before .before .before .before .before .before .before .pre .0) (c .before .before .before .before .before .before .before .before .before .pre .1) (search needs) (c .dollars .ensures)
 
 put-claim-requires : tie.Need-put-claim-requires
 put-claim-requires c κs =
@@ -63,10 +63,10 @@ put-claim-requires c κs =
     let a = s .before .before .before .before .before .before .before in
     room-one (a .args .buffer .now) _ _ _
     (due-one _ _ _ _ _ _ _ _ (s .before .due-type .ensures) _ _ (s .if1 .left) (c .before .before .dollars .ensures) (c .before .claim-on .ensures))
-    (a .pre .1 .room (not-false _ (c .before .before .before .if2 .left)))
+    (a .pre .2 .room (not-false _ (c .before .before .before .if2 .left)))
 
 add-result-2 : tie.Need-add-result-2
-add-result-2 c = let f = c .before .before .before .before .before .before .before .before .before .before .before .before .before .before .pre .1 .few in search needs
+add-result-2 c = let f = c .before .before .before .before .before .before .before .before .before .before .before .before .before .before .pre .2 .few in search needs
 
 same-length : tie.Need-same-length
 same-length c = search needs

@@ -1,4 +1,4 @@
--- The loop keeps that the rows below i are reached and those from i on decide.
+-- The loop keeps that the rows from the first one up to i are reached and those from i on decide.
 use Prim.Native.Nat.{_-_}
 use Rattle.claims.proofs.RowLoops.{Reaching, reach-start, reach-empty, reach-later, reach-next, reach-end}
 use borrow.Author.Needs.{needs}
@@ -6,13 +6,13 @@ use Rattle.fails.proofs.reached_rows.Statement.{statement}
 use Rattle.fails.proofs.reached_rows.Tie as tie
 
 abbrev Inv-loop : tie.InvT-loop
-Inv-loop tables security day column i₀ i = Reaching column tables security day i
+Inv-loop tables security day column first i₀ i = Reaching column tables security day first i
 
 abbrev μ-loop : tie.MeasureT-loop
-μ-loop tables security day column i₀ i = 16 - i
+μ-loop tables security day column first i₀ i = 16 - i
 
 loop-holds : tie.Need-loop-holds Inv-loop μ-loop
-loop-holds c = reach-start _ _ _ _
+loop-holds c = reach-start _ _ _ _ _ (search needs)
 
 mul-date : tie.Need-mul-date Inv-loop μ-loop
 mul-date c = search needs

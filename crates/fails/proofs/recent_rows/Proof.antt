@@ -10,7 +10,8 @@ use Rattle.tags.specs.declared.Tag.{Tag}
 use Rattle.tags.specs.declared.Tag.the-variants.{Absent, Several, Unended, NotDate, On}
 use Rattle.tags.specs.ContractDateTag.{tagged, contractDate}
 use Rattle.tags.proofs.Tag.{the-type}
-use Rattle.claims.specs.Fails.{maximumNumbers, maximumFor}
+use Rattle.claims.specs.Fails.{maximumNumbers, maximumFor, maximumOf}
+use Rattle.claims.specs.Reached.{reachedRows}
 use Rattle.fails.proofs.Claimed.{rows-by-code, rows-untagged, rows-tagged}
 use borrow.Author.Needs.{needs}
 use native.Mathlib.Omega.{arith}
@@ -39,12 +40,14 @@ reached-rows-requires : tie.Need-reached-rows-requires
 reached-rows-requires c κs = search needs
 
 interim-end-requires : tie.Need-interim-end-requires
+unfolding reachedRows
 interim-end-requires c κs = search needs
 
 enum-known-tag : tie.Need-enum-known-tag
 enum-known-tag c = search needs
 
 returns-2 : tie.Need-returns-2
+unfolding reachedRows
 returns-2 c =
     let u = untagged _ (c .match .keys2) in
     rows-untagged _ _ _ _ (c .before .before .before .if1 .left) (c .before .before .reached-rows .ensures) (c .before .interim-end .ensures) (u .0) (u .1)
@@ -65,6 +68,7 @@ first-of-last-requires : tie.Need-first-of-last-requires
 first-of-last-requires c κs = search needs
 
 returns-3 : tie.Need-returns-3
+unfolding reachedRows maximumOf
 returns-3 c =
     let s = c .before .before .before .before .before .before .before .before in
     rows-tagged _ _ _ _ (s .before .before .if1 .left) (s .before .reached-rows .ensures) (s .interim-end .ensures) (c .before .before .before .before .before .before .tag .given .1)

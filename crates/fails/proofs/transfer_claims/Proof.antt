@@ -1,7 +1,7 @@
 -- The loop keeps that the pass over the first j rows is made.
 use Prim.Native.Nat.{_+_, _-_}
 use Rattle.claims.specs.Reached.{rowAt}
-use Rattle.claims.proofs.RowLoops.{Passing, passing-start, passing-now, passing-more, passing-end, claiming-below}
+use Rattle.claims.proofs.RowLoops.{Passing, passing-start, passing-now, passing-more, passing-end}
 use Rattle.fails.specs.Recent.{dueClaim, recentClaims}
 use borrow.Author.Needs.{needs}
 use Rattle.fails.proofs.transfer_claims.Statement.{statement}
@@ -26,8 +26,9 @@ add-pass-row c = search needs
 pass-row-requires : tie.Need-pass-row-requires Inv-loop μ-loop
 unfolding recentClaims
 pass-row-requires c κs = (
-  claiming-below (search needs) (c .before .before .before .before .before .before .before .pre .1),
-  passing-now _ _ _ _ (c .before .before .before .before .before .before .before .pre .2) (c .before .before .loop .inv) (search needs),
+  c .before .before .before .before .before .before .before .pre .0,
+  search needs,
+  passing-now _ _ _ _ (c .before .before .before .before .before .before .before .pre .3) (c .before .before .loop .inv) (search needs),
 )
 
 add-j : tie.Need-add-j Inv-loop μ-loop
@@ -38,7 +39,7 @@ loop-less c = search needs
 
 loop-again : tie.Need-loop-again Inv-loop μ-loop
 unfolding recentClaims
-loop-again c = passing-more _ _ _ _ (c .before .before .before .before .before .before .before .before .before .before .pre .2) (c .before .before .before .before .before .loop .inv) (search needs) (c .before .before .pass-row .ensures) (c .before .before .pass-row .kept .1 .0)
+loop-again c = passing-more _ _ _ _ (c .before .before .before .before .before .before .before .before .before .before .pre .3) (c .before .before .before .before .before .loop .inv) (search needs) (c .before .before .pass-row .ensures) (c .before .before .pass-row .kept .1 .0)
 
 same-length : tie.Need-same-length Inv-loop μ-loop
 same-length c = c .before .loop .inv .kept

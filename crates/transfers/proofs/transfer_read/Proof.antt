@@ -93,14 +93,14 @@ few-on c =
 
 -- what they ask is there
 asks-on : (c : tie.After-recent-rows)
-    → Claiming (c .before .before .before .before .before .before .before .before .before .before .before .before .before .args .calendar .now) (c .before .before .before .before .before .before .before .before .before .before .before .before .before .args .tables .now) (c .before .before .before .before .before .before .before .before .before .before .before .before .before .args .t) (c .recent-rows .result .end)
+    → Claiming (c .before .before .before .before .before .before .before .before .before .before .before .before .before .args .calendar .now) (c .before .before .before .before .before .before .before .before .before .before .before .before .before .args .tables .now) (c .before .before .before .before .before .before .before .before .before .before .before .before .before .args .t)
 asks-on c =
     let k = judged.sound-number _ _ _ _ (c .before .before .before .before .before .before .before .before .before .before .before .before .before .pre .0) .tables-sound in
     let f = passed _ _ _ _ _ (sym (c .before .before .before .own-number .ensures) ∙ c .before .before .if1 .left) .fields in
     claims-on c .asks (k .calendar-words) (k .table-words) (f .sender)
 
 transfer-claims-requires : tie.Need-transfer-claims-requires
-transfer-claims-requires c κs = (claims-on (c .before) .order, asks-on (c .before), free-count _ _ (omega (arith, few-on (c .before))))
+transfer-claims-requires c κs = (asks-on (c .before), claims-on (c .before) .order, claims-on (c .before) .few, free-count _ _ (omega (arith, few-on (c .before))))
 
 mul-if2 : tie.Need-mul-if2
 mul-if2 c = record { fits = omega (arith, c .before .before .transfer-claims .ensures .next, few-on (c .before .before .before .before)) }
@@ -136,8 +136,9 @@ post-requires c κs =
 
 transfer-claims-requires-2 : tie.Need-transfer-claims-requires-2
 transfer-claims-requires-2 c κs = (
-  claims-on (c .before .before .before .before .before .before .before .before .before .before) .order,
   asks-on (c .before .before .before .before .before .before .before .before .before .before),
+  claims-on (c .before .before .before .before .before .before .before .before .before .before) .order,
+  claims-on (c .before .before .before .before .before .before .before .before .before .before) .few,
   free-store _ _ (omega (arith, few-on (c .before .before .before .before .before .before .before .before .before .before))) (omega (arith, c .before .before .before .before .before .before .before .before .transfer-claims .ensures .next, c .before .before .before .before .before .if2 .left)),
 )
 
