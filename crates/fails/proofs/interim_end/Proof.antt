@@ -22,8 +22,8 @@ returns c =
 
 reached-rows-requires : tie.Need-reached-rows-requires
 reached-rows-requires c κs =
-    let p = c .before .before .before .before .pre in
-    (search needs, p .1, search needs, subst⁻¹ (λ (k : ℕ). k ≤ 16) (p .2) (few-reached _ _ _))
+    let few = subst⁻¹ (λ (k : ℕ). k ≤ 16) (c .before .before .before .before .pre .2) (few-reached _ _ _) in
+    search needs
 
 returns-2 : tie.Need-returns-2
 returns-2 c =
