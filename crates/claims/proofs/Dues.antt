@@ -22,7 +22,7 @@ use Rattle.claims.specs.Amounts.{failType, interimType}
 use Rattle.claims.specs.Fails.{isMbs, maximumOf, eligible, isInterim, interimIn, interim, Due, due, fails, dues, transferClaims}
 use Rattle.claims.proofs.Runs.{select-within}
 use Rattle.claims.proofs.TableRows.{length-rows-of}
-use Rattle.claims.proofs.Eligible.{beneficiary, isEligible, eligible-words, eligible-is}
+use Rattle.claims.proofs.Eligible.{beneficiary, isKept, eligible-words, cut-words, cut-is}
 
 -- ---- a test of all rows, and one of each
 
@@ -65,7 +65,9 @@ module _ (tables : List ℕ) (day : ℕ) (t : Transfer) (tag : Tag) where
 
   -- a row that a failed transfer claims
   unfoldable pub isFailDue : Row → Bool
-  isFailDue row = fails t tag && isEligible (maximumOf tables (t .security)) (contractDate tag) day (filledRows tables (t .security)) row
+  isFailDue row =
+      let type = typeOf (securityOf tables (t .security)) in
+      fails t tag && isKept type (maximumOf tables (t .security)) (contractDate tag) day (filledRows tables (t .security)) row
 
   -- a row that is claimed with tracking code 0, tag or no tag
   unfoldable pub isInterimDue : Row → Bool
@@ -87,10 +89,10 @@ module _ (tables : List ℕ) (day : ℕ) (t : Transfer) (tag : Tag) where
   dues-rows e =
       map-append (λ (d : Due). d .row) (cond (fails t tag) (map (due failType) (eligible tables day t tag)) []) _
       ∙ ap₂ (λ (xs ys : List Row). xs ++ ys)
-      (of-part (fails t tag) failType _ _ (eligible-is _ _ day rows e))
+      (of-part (fails t tag) failType _ _ (cut-is _ _ _ day rows e))
       (of-part (eqb (t .code) 0) interimType _ _ (interim-is _ day rows))
       ∙ select-halves beneficiary day isFailDue isInterimDue rows e
-      (λ row h. eligible-words _ _ day rows row .0 (and-right (fails t tag) _ h) .1)
+      (λ row h. eligible-words _ _ day rows row .0 (cut-words _ _ _ day rows row .0 (and-right (fails t tag) _ h) .0) .1)
       (λ row h. interim-words _ day row .0 (and-right (eqb (t .code) 0) _ h) .2)
 
   -- so what rises with the table's rows rises with the claimed ones: the Beneficiary Date, so none is claimed twice; the row number

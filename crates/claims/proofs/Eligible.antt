@@ -1,20 +1,20 @@
--- Eligible rows in other words, where Beneficiary Dates rise: a row is eligible exactly when C < Beneficiary Date ≤ S and fewer than
--- the maximum number of rows have a Beneficiary Date after it and on or before S. Taking the last rows of a rising list is counting
--- those behind.
+-- Eligible rows in other words, where Beneficiary Dates rise: a row is eligible exactly when C < Beneficiary Date ≤ S, fewer than the
+-- maximum number of rows have a Beneficiary Date after it and on or before S, and the cut leaves it: it is not MBS, or is paid, or no
+-- earlier such row waits. Taking the last rows of a rising list is counting those behind.
 use mathlib.Core.Path.{_≡_, refl, sym, ap, _∙_}
-use mathlib.Core.Logic.{_↔_}
-use mathlib.Core.Bool.{Bool, true, false, cond, _&&_}
+use mathlib.Core.Logic.{_↔_, _⊎_, inl, inr}
+use mathlib.Core.Bool.{Bool, true, false, cond, not, _&&_, and-false}
 use mathlib.Core.List.{List, [], _∷_}
 use Prim.Native.Nat.{ℕ, _≤_, _<_}
 use native.Mathlib.Omega.{arith}
 use lib.ListN.{length}
 use lib.Dec.{ltb, leb}
-use borrow.Author.Tests.{ltb-true, leb-true, lt-ltb, le-ltb, le-leb}
-use Rattle.lists.specs.Tests.{and-left, and-right}
-use Rattle.lists.specs.All.{all}
-use Rattle.lists.specs.Select.{select, lastOf, rising, select-agree, select-both, last-none, last-front, rising-select}
+use borrow.Author.Tests.{ltb-true, ltb-false, leb-true, leb-false, lt-ltb, le-ltb, le-leb, lt-leb}
+use Rattle.lists.specs.Tests.{and-left, and-right, and-both}
+use Rattle.lists.specs.All.{all, all-each}
+use Rattle.lists.specs.Select.{select, lastOf, keepFirst, rising, select-agree, select-both, last-none, last-front, rising-select, keep-first-words}
 use Rattle.securities.specs.Securities.{Row}
-use Rattle.claims.specs.Fails.{eligibleIn}
+use Rattle.claims.specs.Fails.{isMbs, eligibleIn, waits, cut}
 
 -- the order of a security's rows
 abbrev pub beneficiary : Row → ℕ
@@ -78,13 +78,74 @@ last-recent n day (row ∷ rows) e =
     go true held = last-front n row held
     go false held = refl
 
--- the eligible rows are those of the table that are eligible, in its order
+-- the eligible rows before the cut are those of the table that are eligible, in its order
 pub eligible-is : (n contract day : ℕ) (rows : List Row) → rising beneficiary rows ≡ true
     → eligibleIn n contract day rows ≡ select (isEligible n contract day rows) rows
 unfolding eligibleIn isEligible
 eligible-is n contract day rows e = rw (last-recent n day rows e) (select-both _ _ rows)
 
+-- ---- the cut
+
+-- an eligible row with a Beneficiary Date before a date, which waits
+unfoldable pub waitsBefore : ℕ → ℕ → ℕ → List Row → ℕ → Row → Bool
+waitsBefore n contract day rows date row = (ltb (row .beneficiaryDate) date && waits day row) && isEligible n contract day rows row
+
+-- an eligible row that the cut leaves
+unfoldable pub isKept : ℕ → ℕ → ℕ → ℕ → List Row → Row → Bool
+isKept type n contract day rows row =
+    not (isMbs type && (waits day row && ltb 0 (length (select (waitsBefore n contract day rows (row .beneficiaryDate)) rows))))
+    && isEligible n contract day rows row
+
+-- eligible, and of another type, or paid, or with no earlier eligible row that waits
+pub cut-words : (type n contract day : ℕ) (rows : List Row) (row : Row)
+    → (isKept type n contract day rows row ≡ true)
+    ↔ ((isEligible n contract day rows row ≡ true)
+    × (type < 3 ⊎ row .paymentDate ≤ day ⊎ length (select (waitsBefore n contract day rows (row .beneficiaryDate)) rows) ≡ 0))
+unfolding isKept isMbs waits
+cut-words type n contract day rows row = (
+  λ e. (
+    and-right (not (leb 3 type && (ltb day (row .paymentDate) && ltb 0 before))) _ e,
+    why (leb 3 type) (ltb day (row .paymentDate)) (ltb 0 before) refl refl refl (and-left _ _ e),
+  ),
+  λ h. and-both (left (h .1)) (h .0),
+)
+  where
+    before : ℕ
+    before = length (select (waitsBefore n contract day rows (row .beneficiaryDate)) rows)
+
+    why : (a b c : Bool) → leb 3 type ≡ a → ltb day (row .paymentDate) ≡ b → ltb 0 before ≡ c → not (a && (b && c)) ≡ true
+        → type < 3 ⊎ row .paymentDate ≤ day ⊎ before ≡ 0
+    why false b c p q r e = inl (leb-false 3 type p)
+    why true false c p q r e = inr (inl (ltb-false day (row .paymentDate) q))
+    why true true false p q r e = inr (inr (omega (arith, ltb-false 0 before r)))
+    why true true true p q r e = inr (inr cc)
+
+    left : type < 3 ⊎ row .paymentDate ≤ day ⊎ before ≡ 0 → not (leb 3 type && (ltb day (row .paymentDate) && ltb 0 before)) ≡ true
+    left (inl h) = rw (lt-leb 3 type h)
+    left (inr (inl h)) = rw (le-ltb day (row .paymentDate) h, and-false (leb 3 type))
+    left (inr (inr h)) = rw (le-ltb 0 before (omega arith), and-false (ltb day (row .paymentDate)), and-false (leb 3 type))
+
+-- what the cut leaves of the eligible rows are those of the table that it leaves, in its order
+pub cut-is : (type n contract day : ℕ) (rows : List Row) → rising beneficiary rows ≡ true
+    → cut type day (eligibleIn n contract day rows) ≡ select (isKept type n contract day rows) rows
+unfolding cut isKept waitsBefore
+cut-is type n contract day rows e = rw (eligible-is n contract day rows e) (go (isMbs type))
+  where
+    held : List Row
+    held = select (isEligible n contract day rows) rows
+
+    go : (b : Bool) → cond b (keepFirst (waits day) held) held
+        ≡ select (λ row. not (b && (waits day row && ltb 0 (length (select (waitsBefore n contract day rows (row .beneficiaryDate)) rows))))
+        && isEligible n contract day rows row) rows
+    go true =
+        keep-first-words beneficiary (waits day) held (rising-select beneficiary _ rows e)
+        ∙ select-both _ (isEligible n contract day rows) rows
+        ∙ select-agree _ _ (λ row. true) rows (all-each _ rows (λ row. refl)) (λ row h.
+        ap (λ (l : List Row). not (waits day row && ltb 0 (length l)) && isEligible n contract day rows row)
+        (select-both _ (isEligible n contract day rows) rows))
+    go false = refl
+
 -- they rise too: no Beneficiary Date is eligible twice
-pub rising-eligible : (n contract day : ℕ) (rows : List Row) → rising beneficiary rows ≡ true
-    → rising beneficiary (eligibleIn n contract day rows) ≡ true
-rising-eligible n contract day rows e = rw (eligible-is n contract day rows e) (rising-select beneficiary _ rows e)
+pub rising-eligible : (type n contract day : ℕ) (rows : List Row) → rising beneficiary rows ≡ true
+    → rising beneficiary (cut type day (eligibleIn n contract day rows)) ≡ true
+rising-eligible type n contract day rows e = rw (cut-is type n contract day rows e) (rising-select beneficiary _ rows e)

@@ -7,6 +7,7 @@ pub mod Written
 pub mod Sizes
 pub mod Rows
 pub mod InterimRows
+pub mod DelayRows
 pub mod Making
 pub mod TableRows
 pub mod Runs

@@ -2,19 +2,19 @@
 -- date come first: the eligible rows are among the last that it has reached by Beneficiary Date, and the interim rows are those behind
 -- these that it has reached by Record Date.
 use mathlib.Core.Path.{_≡_, refl, sym, ap, ap₂, _∙_}
-use mathlib.Core.Bool.{Bool, true, false, cond, _&&_, and-true, and-false}
+use mathlib.Core.Bool.{Bool, true, false, cond, not, _&&_, and-true, and-false}
 use mathlib.Core.List.{List, [], _∷_, _++_, map, map-append, map-map}
 use Prim.Native.Nat.{ℕ, zero, suc, _+_, _-_, _≤_, _<_}
 use native.Mathlib.Nat.{zero-add}
 use native.Mathlib.Omega.{arith}
 use lib.Dec.{ltb, leb}
 use lib.ListN.{length, take, drop, length-drop}
-use lib.Seq.{length-take-le}
+use lib.Seq.{length-take-le, getD-take}
 use borrow.Author.Tests.{ltb-true, leb-true, leb-false, eqb-true, lt-ltb, le-ltb, le-leb, lt-leb, eq-eqb, ne-eqb}
 use Rattle.lists.specs.Tests.{and-left, and-right, and-both}
-use Rattle.lists.specs.All.{all, all-at, all-weaken}
+use Rattle.lists.specs.All.{all, all-at, all-of, all-weaken}
 use Rattle.lists.specs.Parts.{drop-take}
-use Rattle.lists.specs.Select.{select, lastOf}
+use Rattle.lists.specs.Select.{select, lastOf, keepFirst, firstKey, rising, select-agree, select-both, rising-select, rising-last, first-key-select, keep-first-key}
 use Rattle.days.specs.Days.{isDate, lastOpen}
 use Rattle.records.specs.declared.Claim.{Claim}
 use Rattle.records.specs.declared.Transfer.{Transfer}
@@ -23,9 +23,9 @@ use Rattle.securities.proofs.Sound.{good-row, none-filled}
 use Rattle.tags.specs.declared.Tag.{Tag}
 use Rattle.tags.specs.ContractDateTag.{tagged, contractDate}
 use Rattle.claims.specs.Amounts.{failType, interimType, claimOn}
-use Rattle.claims.specs.Fails.{isMbs, maximumOf, eligibleIn, eligible, isInterim, interimIn, interim, Due, due, fails, dues, transferParties, transferClaims}
-use Rattle.claims.specs.Reached.{rowAt, leading, dateAt, isReached, reachedFrom, reachedRows, interimEnd, Claiming}
-use Rattle.claims.proofs.TableRows.{rows-of-at, length-rows-of, good-rows}
+use Rattle.claims.specs.Fails.{isMbs, maximumOf, eligibleIn, waits, cut, eligible, isInterim, interimIn, interim, Due, due, fails, dues, transferParties, transferClaims}
+use Rattle.claims.specs.Reached.{rowAt, leading, dateAt, isReached, reachedFrom, reachedRows, interimEnd, isWaiting, waitingFrom, waitingRow, isKeptBy, Claiming}
+use Rattle.claims.proofs.TableRows.{rows-of-at, row-number, length-rows-of, row-behind, rising-numbers, good-rows}
 
 -- ---- leading rows
 
@@ -247,6 +247,27 @@ module _ (calendar tables : List ℕ) (day number : ℕ) (t : Transfer) where
       go true = map-map claim (due failType) (eligible tables day t tag)
       go false = refl
 
+-- ---- the cut by row numbers
+
+-- all rows have numbers below n, which stands for none of them
+cut-by-number : (type contract day n : ℕ) (rows : List Row) → rising (λ row. row .index) rows ≡ true → all (λ row. ltb (row .index) n) rows ≡ true
+    → cut type day (select (λ row. ltb contract (row .beneficiaryDate)) rows)
+    ≡ select (isKeptBy contract (cond (isMbs type) (firstKey (λ row. row .index) n (isWaiting contract day) rows) n) day) rows
+unfolding cut isKeptBy isWaiting
+cut-by-number type contract day n rows e b = go (isMbs type)
+  where
+    after : Row → Bool
+    after row = ltb contract (row .beneficiaryDate)
+
+    go : (b : Bool) → cond b (keepFirst (waits day) (select after rows)) (select after rows)
+        ≡ select (isKeptBy contract (cond b (firstKey (λ row. row .index) n (isWaiting contract day) rows) n) day) rows
+    go true =
+        keep-first-key (λ row. row .index) n (waits day) (select after rows) (rising-select (λ row. row .index) after rows e)
+        ∙ select-both _ after rows
+        ∙ ap (λ (w : ℕ). select (λ row. not (ltb w (row .index) && waits day row) && after row) rows)
+        (first-key-select (λ row. row .index) n (waits day) after rows)
+    go false = select-agree _ _ _ rows b (λ row h. rw (le-ltb n (row .index) (omega (arith, ltb-true (row .index) n h))))
+
 -- ---- the rows of a transfer's security
 
 reached-leading : (tables : List ℕ) (s day : ℕ) → reachedRows tables s day ≡ leading (isReached 1 day) (rowsOf (securityOf tables s))
@@ -304,11 +325,32 @@ module _ (calendar tables : List ℕ) (day : ℕ) (t : Transfer) where
         let long : length (take reachedNow rows) ≡ reachedNow = length-take-le reachedNow rows (omega (arith, few-reached tables (t .security) day, length-rows-of tables (t .security))) in
         rw (first, long) (drop-take (reachedNow - maximum) reachedNow rows)
 
+    -- the numbers of the rows from a first one up to the reached ones
+    below-reached : (first : ℕ) → first ≤ reachedNow → all (λ row. ltb (row .index) reachedNow) (take (reachedNow - first) (drop first rows)) ≡ true
+    below-reached first h =
+        let row = rowAt tables (t .security) 0 in
+        let few = few-reached tables (t .security) day in
+        let long = length-take-le (reachedNow - first) (drop first rows) (omega (arith, few, length-drop first rows, length-rows-of tables (t .security))) in
+        all-of _ _ row (λ k l.
+        let here : k < reachedNow - first = omega arith in
+        rw (getD-take (reachedNow - first) (drop first rows) k row here, row-behind tables (t .security) first k row (omega arith), row-number tables (t .security) (first + k))
+        (lt-ltb (first + k) reachedNow (omega arith)))
+
+    -- the eligible rows are those of the last ones that the number of the first that waits leaves
     pub eligible-window : (tag : Tag)
         → let first = reachedNow - maximumOf tables (t .security) in
-        eligible tables day t tag ≡ select (λ row. ltb (contractDate tag) (row .beneficiaryDate)) (take (reachedNow - first) (drop first rows))
-    unfolding eligible eligibleIn
-    eligible-window tag = ap (select (λ row. ltb (contractDate tag) (row .beneficiaryDate))) (last-reached (maximumOf tables (t .security)))
+        eligible tables day t tag
+        ≡ select (isKeptBy (contractDate tag) (waitingRow tables (t .security) (contractDate tag) day first) day) (take (reachedNow - first) (drop first rows))
+    unfolding eligible eligibleIn waitingRow waitingFrom
+    eligible-window tag =
+        let type = typeOf (securityOf tables (t .security)) in
+        let maximum = maximumOf tables (t .security) in
+        let first = reachedNow - maximum in
+        let numbers : rising (λ row. row .index) (lastOf maximum (select (λ row. leb (row .beneficiaryDate) day) (filledRows tables (t .security)))) ≡ true
+        = rising-last _ maximum _ (rising-select _ _ _ (rising-numbers tables (t .security))) in
+        ap (λ (l : List Row). cut type day (select (λ row. ltb (contractDate tag) (row .beneficiaryDate)) l)) (last-reached maximum)
+        ∙ cut-by-number type (contractDate tag) day reachedNow (take (reachedNow - first) (drop first rows))
+        (rw (last-reached maximum) at numbers) (below-reached first (omega arith))
 
     between-window : select (isInterim day) (filledRows tables (t .security))
         ≡ take (reachedFrom 0 tables (t .security) day reachedNow - reachedNow) (drop reachedNow rows)

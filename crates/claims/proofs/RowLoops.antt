@@ -1,23 +1,26 @@
--- The loops over a security's rows: counting those that the day has reached, and the pass over the claims of the rows from a first one on.
+-- The loops over a security's rows: counting those that the day has reached, looking for the first that waits, and the pass over the claims
+-- of the rows from a first one on.
 use mathlib.Core.Path.{_≡_, refl, sym, ap, _∙_, subst}
-use mathlib.Core.Bool.{Bool, true, false, cond}
+use mathlib.Core.Bool.{Bool, true, false, cond, _&&_}
 use mathlib.Core.List.{List, []}
 use Prim.Native.Nat.{ℕ, suc, _+_, _-_, _*_, _≤_, _<_}
 use native.Mathlib.Nat.{add-zero}
 use native.Mathlib.Numerals.{add-one}
 use native.Mathlib.Omega.{arith}
+use lib.Dec.{ltb}
 use lib.ListN.{length, take, drop, getD, length-take, length-drop, drop-of-length-le}
 use lib.Seq.{drop-cons}
 use borrow.Author.Tests.{lt-ltb, le-leb, lt-leb}
+use Rattle.lists.specs.Select.{firstKey}
 use Rattle.lists.specs.Tabulate.{each}
 use Rattle.records.specs.declared.Claim.{Claim}
 use Rattle.records.specs.declared.Transfer.{Transfer}
 use Rattle.securities.specs.Securities.{securityOf, typeOf, Row, rowOf, rowsOf}
-use Rattle.claims.specs.Fails.{isMbs}
+use Rattle.claims.specs.Fails.{isMbs, waits}
 use Rattle.claims.specs.Claimable.{Claimable}
 use Rattle.claims.specs.Passes.{Free, Passed, pass-start, pass-more, pass-now, pass-end}
-use Rattle.claims.specs.Reached.{rowAt, leading, dateAt, isReached, reachedFrom, reachedRows, interimEnd, Claiming}
-use Rattle.claims.proofs.TableRows.{rows-of-at, date-word, length-rows-of}
+use Rattle.claims.specs.Reached.{rowAt, leading, dateAt, isReached, reachedFrom, reachedRows, interimEnd, isWaiting, waitingFrom, waitingRow, Claiming}
+use Rattle.claims.proofs.TableRows.{rows-of-at, row-number, date-word, payment-word, length-rows-of}
 
 -- ---- the rows that the day has reached
 
@@ -81,6 +84,72 @@ module _ (tables : List ℕ) (s day : ℕ) {n : ℕ} (e : n ≡ reachedRows tabl
   pub end-mbs : {m : ℕ} → isMbs (typeOf (securityOf tables s)) ≡ true → m ≡ reachedFrom 0 tables s day n → m ≡ interimEnd tables s day
   unfolding interimEnd
   end-mbs q o = rw (q, ← e) o
+
+-- ---- the first row that waits
+
+module _ (tables : List ℕ) (s contract day : ℕ) where
+  -- what the loop keeps: of the rows from the first one up to i none waits, those from i on decide
+  pub record Seeking (end first i : ℕ) : Type 0 where
+    pub within : i ≤ end
+    pub few : end ≤ 16
+    pub rest : waitingFrom tables s contract day end first ≡ waitingFrom tables s contract day end i
+
+  pub seek-start : (end first : ℕ) → first ≤ end → end ≤ 16 → Seeking end first first
+  seek-start end first h k = record { within = h; few = k; rest = refl }
+
+  module _ {end first i : ℕ} (k : Seeking end first i) (h : i < end) where
+    waiting-here : waitingFrom tables s contract day end i
+        ≡ cond (isWaiting contract day (rowAt tables s i)) i (waitingFrom tables s contract day end (i + 1))
+    unfolding waitingFrom firstKey
+    waiting-here =
+        let rows = rowsOf (securityOf tables s) in
+        let here = rowAt tables s i in
+        let n : end - i ≡ suc (end - (i + 1)) = omega arith in
+        let small : i < 16 = omega (arith, k .few) in
+        rw (n, drop-cons rows i here (omega (arith, length-rows-of tables s)), rows-of-at tables s i here small, row-number tables s i, add-one)
+
+    by-words : isWaiting contract day (rowAt tables s i)
+        ≡ (ltb contract (getD tables (114 * s + 2 + 7 * i + 1) 0) && ltb day (getD tables (114 * s + 2 + 7 * i + 2) 0))
+    unfolding isWaiting waits dateAt
+    by-words = rw (date-word tables s i 1 (omega arith), payment-word tables s i)
+
+    module _ {b : Bool} (e : b ≡ (ltb contract (getD tables (114 * s + 2 + 7 * i + 1) 0) && ltb day (getD tables (114 * s + 2 + 7 * i + 2) 0))) where
+      pub seek-found : b ≡ true → i ≡ waitingFrom tables s contract day end first
+      seek-found q = sym (k .rest ∙ waiting-here ∙ rw (by-words, ← e, q))
+
+      pub seek-next : b ≡ false → Seeking end first (i + 1)
+      seek-next q = record { within = omega arith; few = k .few; rest = k .rest ∙ waiting-here ∙ rw (by-words, ← e, q) }
+
+  none-from : (n : ℕ) → waitingFrom tables s contract day n n ≡ n
+  unfolding waitingFrom firstKey
+  none-from n = let z : n - n ≡ 0 = omega arith in rw z
+
+  pub seek-end : {end first i : ℕ} → Seeking end first i → end ≤ i → end ≡ waitingFrom tables s contract day end first
+  seek-end {end} {first} {i} k h =
+      let e : i ≡ end = omega (arith, k .within) in
+      sym (k .rest ∙ rw e (none-from end))
+
+  -- from the row behind the reached ones on there is none
+  pub none-waits : waitingRow tables s contract day (reachedRows tables s day) ≡ reachedRows tables s day
+  unfolding waitingRow
+  none-waits = go (isMbs (typeOf (securityOf tables s)))
+    where
+      reached : ℕ
+      reached = reachedRows tables s day
+
+      go : (b : Bool) → cond b (waitingFrom tables s contract day reached reached) reached ≡ reached
+      go true = none-from reached
+      go false = refl
+
+  module _ {n : ℕ} (first : ℕ) (e : n ≡ reachedRows tables s day) where
+    pub waiting-other : isMbs (typeOf (securityOf tables s)) ≡ false → n ≡ waitingRow tables s contract day first
+    unfolding waitingRow
+    waiting-other q = rw q e
+
+    pub waiting-mbs : {m : ℕ} → isMbs (typeOf (securityOf tables s)) ≡ true → m ≡ waitingFrom tables s contract day n first
+        → m ≡ waitingRow tables s contract day first
+    unfolding waitingRow
+    waiting-mbs q o = rw (q, ← e) o
 
 -- ---- a pass over rows
 

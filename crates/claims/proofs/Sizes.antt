@@ -10,7 +10,7 @@ use lib.ListN.{getD}
 use borrow.Author.Tests.{ltb-true}
 use Rattle.lists.specs.Tests.{and-left, and-right}
 use Rattle.lists.specs.All.{all, all-both}
-use Rattle.lists.specs.Select.{select, all-select, all-last}
+use Rattle.lists.specs.Select.{select, keepFirst, all-select, all-last, all-keep-first}
 use Rattle.lists.specs.Tabulate.{each, eachOf}
 use Rattle.days.specs.Days.{bitOn, lastOpen}
 use Rattle.days.proofs.OpenDays.{Kept, after-small, from-small}
@@ -21,7 +21,7 @@ use Rattle.tags.specs.declared.Tag.{Tag}
 use Rattle.securities.specs.Securities.{securityOf, typeOf, Row, filledRows, goodRow}
 use Rattle.securities.proofs.Sound.{good-row, Sound}
 use Rattle.claims.specs.Amounts.{Part, ofInterest, ofPrincipal, centsOn, centsFor, factorFor, amount, outcomeOf, isLate, releaseOf, isEarly, slotOf, Parties, claimOn, failType, interimType, lendingType}
-use Rattle.claims.specs.Fails.{isMbs, eligibleIn, eligible, isInterim, interimIn, interim, Due, due, fails, dues, transferParties, transferClaims}
+use Rattle.claims.specs.Fails.{isMbs, eligibleIn, waits, cut, eligible, isInterim, interimIn, interim, Due, due, fails, dues, transferParties, transferClaims}
 use Rattle.claims.specs.Close.{crossed, loanParties, loanClaim, rowClaims, closeClaims, securityBalances, lenderBalances}
 use Rattle.claims.proofs.Written.{Fits, AllFit, all-fit-append}
 
@@ -124,9 +124,15 @@ module _ (calendar tables : List ℕ) (kept : Kept calendar) where
   -- rows selected from sound ones fit
   fit-eligible : (day : ℕ) (t : Transfer) (tag : Tag) → Sound (lastOpen calendar) (filledRows tables (t .security))
       → all (rowFits (lastOpen calendar)) (eligible tables day t tag) ≡ true
-  unfolding eligible eligibleIn
+  unfolding eligible eligibleIn cut
   fit-eligible day t tag s =
-      all-select _ _ _ (all-last _ _ _ (all-select _ _ _ (sound-fit (lastOpen calendar) (filledRows tables (t .security)) s)))
+      go (isMbs (typeOf (securityOf tables (t .security)))) _
+      (all-select _ _ _ (all-last _ _ _ (all-select _ _ _ (sound-fit (lastOpen calendar) (filledRows tables (t .security)) s))))
+    where
+      go : (b : Bool) (rows : List Row) → all (rowFits (lastOpen calendar)) rows ≡ true
+          → all (rowFits (lastOpen calendar)) (cond b (keepFirst (waits day) rows) rows) ≡ true
+      go true rows e = all-keep-first _ _ rows e
+      go false rows e = e
 
   fit-interim : (day : ℕ) (t : Transfer) → Sound (lastOpen calendar) (filledRows tables (t .security))
       → all (rowFits (lastOpen calendar)) (interim tables day t) ≡ true

@@ -53,6 +53,10 @@ rows-of-at tables s i d h =
     ∙ ap (λ (words : List ℕ). rowOf i words) (part-take (2 + 7 * i) 7 114 from (omega arith) ∙ ap (take 7) (drop-drop (2 + 7 * i) (114 * s) tables))
     ∙ ap (λ (k : ℕ). rowOf i (part k 7 tables)) a
 
+pub row-number : (tables : List ℕ) (s i : ℕ) → rowAt tables s i .index ≡ i
+unfolding rowAt rowOf
+row-number tables s i = refl
+
 pub length-rows-of : (tables : List ℕ) (s : ℕ) → length (rowsOf (securityOf tables s)) ≡ 16
 unfolding rowsOf
 length-rows-of tables s = rows-length 16 0 (drop 2 (securityOf tables s))
@@ -61,11 +65,15 @@ length-rows-of tables s = rows-length 16 0 (drop 2 (securityOf tables s))
 pub row-behind : (tables : List ℕ) (s k j : ℕ) (d : Row) → k + j < 16 → getD (drop k (rowsOf (securityOf tables s))) j d ≡ rowAt tables s (k + j)
 row-behind tables s k j d h = getD-drop k (rowsOf (securityOf tables s)) j d ∙ rows-of-at tables s (k + j) d h
 
--- either date of a row, in its word
+-- a word of a row, in its place
+row-word : (tables : List ℕ) (s i k : ℕ) → k < 7 → getD tables (114 * s + 2 + 7 * i + k) 0 ≡ getD (part (114 * s + 2 + 7 * i) 7 tables) k 0
+row-word tables s i k h =
+    sym (getD-take 7 (drop (114 * s + 2 + 7 * i) tables) k 0 h ∙ getD-drop (114 * s + 2 + 7 * i) tables k 0)
+
+-- the Record Date or the Beneficiary Date
 pub date-word : (tables : List ℕ) (s i column : ℕ) → column < 2 → getD tables (114 * s + 2 + 7 * i + column) 0 ≡ dateAt column (rowAt tables s i)
 unfolding rowAt rowOf dateAt
-date-word tables s i column h =
-    sym (getD-take 7 (drop (114 * s + 2 + 7 * i) tables) column 0 (omega arith) ∙ getD-drop (114 * s + 2 + 7 * i) tables column 0) ∙ go column h
+date-word tables s i column h = row-word tables s i column (omega arith) ∙ go column h
   where
     words : List ℕ
     words = part (114 * s + 2 + 7 * i) 7 tables
@@ -74,6 +82,11 @@ date-word tables s i column h =
     go zero h = refl
     go (suc zero) h = refl
     go (suc (suc column)) h = absurd (omega arith)
+
+-- the Payment Date
+pub payment-word : (tables : List ℕ) (s i : ℕ) → getD tables (114 * s + 2 + 7 * i + 2) 0 ≡ rowAt tables s i .paymentDate
+unfolding rowAt rowOf
+payment-word tables s i = row-word tables s i 2 (omega arith)
 
 -- ---- the numbers of rows rise
 

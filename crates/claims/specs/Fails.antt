@@ -1,11 +1,11 @@
--- Document 01, section Fail claims, and document 02, card 1, interim claims: the rows that a transfer claims. S is the book's day, C
--- the Contract Date.
+-- Document 01, section Fail claims, and document 02, card 1, interim claims, and card 2, long-delay pools: the rows that a transfer
+-- claims. S is the book's day, C the Contract Date.
 use mathlib.Core.Bool.{Bool, cond, _&&_}
 use mathlib.Core.List.{List, [], _∷_, _++_, map}
 use Prim.Native.Nat.{ℕ}
 use lib.Dec.{eqb, ltb, leb}
 use lib.ListN.{getD}
-use Rattle.lists.specs.Select.{select, lastOf}
+use Rattle.lists.specs.Select.{select, lastOf, keepFirst}
 use Rattle.records.specs.declared.Claim.{Claim}
 use Rattle.records.specs.declared.Transfer.{Transfer}
 use Rattle.records.specs.MessageRecords.{firstLine, secondLine}
@@ -44,9 +44,19 @@ unfoldable pub eligibleIn : ℕ → ℕ → ℕ → List Row → List Row
 eligibleIn maximum contract day rows =
     select (λ row. ltb contract (row .beneficiaryDate)) (lastOf maximum (select (λ row. leb (row .beneficiaryDate) day) rows))
 
+-- A row waits for its Payment Date: it is after the day.
+unfoldable pub waits : ℕ → Row → Bool
+waits day row = ltb day (row .paymentDate)
+
+-- Of the rows of a security of type 3 or 4 the first that waits is kept, and later ones that wait are dropped.
+unfoldable pub cut : ℕ → ℕ → List Row → List Row
+cut type day rows = cond (isMbs type) (keepFirst (waits day) rows) rows
+
 -- The eligible rows of a transfer's security, for its tag.
 unfoldable pub eligible : List ℕ → ℕ → Transfer → Tag → List Row
-eligible tables day t tag = eligibleIn (maximumOf tables (t .security)) (contractDate tag) day (filledRows tables (t .security))
+eligible tables day t tag =
+    cut (typeOf (securityOf tables (t .security))) day
+    (eligibleIn (maximumOf tables (t .security)) (contractDate tag) day (filledRows tables (t .security)))
 
 -- ---- interim rows
 

@@ -1,15 +1,16 @@
--- The rows of a security in their places in the tables, and those that a day has reached by either date. Contracts of private functions
--- cite these; the laws of proofs/Reached tie them to the sections' definitions.
+-- The rows of a security in their places in the tables, those that a day has reached by either date, and the first of these that waits.
+-- Contracts of private functions cite these; the laws of proofs/Reached tie them to the sections' definitions.
 use mathlib.Core.Path.{_≡_}
-use mathlib.Core.Bool.{Bool, cond, _&&_}
+use mathlib.Core.Bool.{Bool, cond, not, _&&_}
 use mathlib.Core.List.{List, [], _∷_}
-use Prim.Native.Nat.{ℕ, zero, suc, _+_, _*_, _≤_, _<_}
+use Prim.Native.Nat.{ℕ, zero, suc, _+_, _-_, _*_, _≤_, _<_}
 use lib.Dec.{ltb, leb}
-use lib.ListN.{length, drop}
+use lib.ListN.{length, take, drop}
 use Rattle.lists.specs.Fields.{part}
+use Rattle.lists.specs.Select.{firstKey}
 use Rattle.records.specs.declared.Transfer.{Transfer}
 use Rattle.securities.specs.Securities.{securityOf, typeOf, Row, rowOf, rowsOf}
-use Rattle.claims.specs.Fails.{isMbs}
+use Rattle.claims.specs.Fails.{isMbs, waits}
 
 -- ---- rows
 
@@ -44,6 +45,28 @@ unfoldable pub interimEnd : List ℕ → ℕ → ℕ → ℕ
 interimEnd tables s day =
     let reached = reachedRows tables s day in
     cond (isMbs (typeOf (securityOf tables s))) (reachedFrom 0 tables s day reached) reached
+
+-- ---- the cut by row numbers
+
+-- A row that waits, with its Beneficiary Date after the Contract Date.
+unfoldable pub isWaiting : ℕ → ℕ → Row → Bool
+isWaiting contract day row = ltb contract (row .beneficiaryDate) && waits day row
+
+-- The number of the first such row of a security from a first one up to an end, that of the end where there is none.
+unfoldable pub waitingFrom : List ℕ → ℕ → ℕ → ℕ → ℕ → ℕ → ℕ
+waitingFrom tables s contract day end first =
+    firstKey (λ row. row .index) end (isWaiting contract day) (take (end - first) (drop first (rowsOf (securityOf tables s))))
+
+-- The row from which on the cut drops what waits, that row itself left out: of MBS the first such from a first one up to the reached rows;
+-- for other types the row behind these, and so nothing is dropped.
+unfoldable pub waitingRow : List ℕ → ℕ → ℕ → ℕ → ℕ → ℕ
+waitingRow tables s contract day first =
+    let reached = reachedRows tables s day in
+    cond (isMbs (typeOf (securityOf tables s))) (waitingFrom tables s contract day reached first) reached
+
+-- A row with its Beneficiary Date after the Contract Date that is not behind that row, or does not wait.
+unfoldable pub isKeptBy : ℕ → ℕ → ℕ → Row → Bool
+isKeptBy contract waiting day row = not (ltb waiting (row .index) && waits day row) && ltb contract (row .beneficiaryDate)
 
 -- ---- claims on rows
 

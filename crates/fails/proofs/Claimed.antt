@@ -4,7 +4,7 @@ use mathlib.Core.Bool.{Bool, true, false, cond}
 use mathlib.Core.List.{List, [], _++_, map}
 use Prim.Native.Nat.{ℕ, _+_, _-_, _≤_, _<_}
 use native.Mathlib.Omega.{arith}
-use lib.Dec.{eqb, ltb}
+use lib.Dec.{eqb}
 use lib.ListN.{length, take, drop}
 use borrow.Author.Tests.{eqb-true, eqb-false, eq-eqb, ne-eqb}
 use Rattle.lists.specs.Select.{select}
@@ -18,7 +18,8 @@ use Rattle.tags.specs.declared.Tag.the-variants.{On}
 use Rattle.tags.specs.ContractDateTag.{tagged, contractDate}
 use Rattle.claims.specs.Amounts.{failType, interimType}
 use Rattle.claims.specs.Fails.{maximumOf, eligible, transferClaims}
-use Rattle.claims.specs.Reached.{reachedRows, interimEnd, Claiming}
+use Rattle.claims.specs.Reached.{reachedRows, interimEnd, waitingRow, isKeptBy, Claiming}
+use Rattle.claims.proofs.RowLoops.{none-waits}
 use Rattle.claims.proofs.Reached.{claimed, none-by-code, claims-by-rows, reached-end, claiming, eligible-window, interim-window}
 use Rattle.fails.specs.declared.Recent.{Recent}
 use Rattle.fails.specs.Recent.{noRows, firstRow, recentRows, recentClaims}
@@ -33,15 +34,15 @@ module _ (tables : List ℕ) (day : ℕ) (t : Transfer) (tag : Tag) where
 
   module _ {n k : ℕ} (z : t .code ≡ 0) (e : n ≡ reachedRows tables (t .security) day) (q : k ≡ interimEnd tables (t .security) day) where
     pub rows-untagged : tagged tag ≡ false → contractDate tag ≡ 0
-        → _≡_ {A = Recent} (record { after = 0; first = n; reached = n; end = k }) (recentRows tables day t tag)
+        → _≡_ {A = Recent} (record { after = 0; first = n; reached = n; end = k; waiting = n }) (recentRows tables day t tag)
     unfolding recentRows firstRow
-    rows-untagged u d = rw (eq-eqb (t .code) 0 z, u, d, e, q) refl
+    rows-untagged u d = rw (eq-eqb (t .code) 0 z, u, d, none-waits tables (t .security) 0 day, e, q) refl
 
-    pub rows-tagged : {date : Date} {m first : ℕ} → tag ≡ On date
-        → m ≡ maximumOf tables (t .security) → first ≡ n - m
-        → _≡_ {A = Recent} (record { after = date .0; first = first; reached = n; end = k }) (recentRows tables day t tag)
+    pub rows-tagged : {date : Date} {m first w : ℕ} → tag ≡ On date
+        → m ≡ maximumOf tables (t .security) → first ≡ n - m → w ≡ waitingRow tables (t .security) (date .0) day first
+        → _≡_ {A = Recent} (record { after = date .0; first = first; reached = n; end = k; waiting = w }) (recentRows tables day t tag)
     unfolding recentRows firstRow tagged contractDate
-    rows-tagged g o p = rw (g, eq-eqb (t .code) 0 z, p, e, q, o) refl
+    rows-tagged g o p v = rw (g, eq-eqb (t .code) 0 z, v, p, e, q, o) refl
 
 -- ---- the claims
 
@@ -84,27 +85,39 @@ module _ (calendar tables : List ℕ) (day number : ℕ) (t : Transfer) (sound :
         go true = omega arith
         go false = omega arith
 
+    abbrev kept : Row → Bool
+    kept = isKeptBy (contractDate tag) (waitingRow tables (t .security) (contractDate tag) day first) day
+
     -- without a tag the rows up to the reached ones are none
     fail-window : cond (tagged tag) (map (claim failType) (eligible tables day t tag)) []
-        ≡ map (claim failType) (select (λ row. ltb (contractDate tag) (row .beneficiaryDate)) (take (reached - first) (drop first rows)))
+        ≡ map (claim failType) (select kept (take (reached - first) (drop first rows)))
     unfolding firstRow select
     fail-window = go (tagged tag)
       where
         start : Bool → ℕ
         start b = cond b (reached - maximumOf tables (t .security)) reached
 
+        by : ℕ → Row → Bool
+        by n = isKeptBy (contractDate tag) (waitingRow tables (t .security) (contractDate tag) day n) day
+
         go : (b : Bool) → cond b (map (claim failType) (eligible tables day t tag)) []
-            ≡ map (claim failType) (select (λ row. ltb (contractDate tag) (row .beneficiaryDate)) (take (reached - start b) (drop (start b) rows)))
+            ≡ map (claim failType) (select (by (start b)) (take (reached - start b) (drop (start b) rows)))
         go true = ap (map (claim failType)) (eligible-window calendar tables day t sound held tag)
         go false =
             let z : 0 ≡ reached - reached = omega arith in
-            ap (λ (n : ℕ). map (claim failType) (select (λ (row : Row). ltb (contractDate tag) (row .beneficiaryDate)) (take n (drop reached rows)))) z
+            ap (λ (n : ℕ). map (claim failType) (select (by reached) (take n (drop reached rows)))) z
 
     code-zero : t .code ≡ 0 → Recently calendar tables day number t tag (recentRows tables day t tag)
     unfolding recentRows
     code-zero z =
         let ends = reached-end calendar tables day t in
-        let w : Recent = record { after = contractDate tag; first = first; reached = reached; end = interimEnd tables (t .security) day } in
+        let w : Recent = record {
+          after = contractDate tag;
+          first = first;
+          reached = reached;
+          end = interimEnd tables (t .security) day;
+          waiting = waitingRow tables (t .security) (contractDate tag) day first;
+        } in
         rw (eq-eqb (t .code) 0 z) record {
           claims = claims-by-rows calendar tables day number t tag z
               ∙ ap₂ (λ (x y : List Claim). x ++ y) fail-window (ap (map (claim interimType)) (interim-window calendar tables day t sound held))

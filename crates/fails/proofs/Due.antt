@@ -14,7 +14,7 @@ use Rattle.records.specs.declared.Transfer.{Transfer}
 use Rattle.securities.specs.Securities.{securityOf, Row, rowOf, rowsOf}
 use Rattle.claims.specs.Amounts.{failType, interimType, claimOn}
 use Rattle.claims.specs.Fails.{transferParties}
-use Rattle.claims.specs.Reached.{rowAt}
+use Rattle.claims.specs.Reached.{rowAt, isKeptBy}
 use Rattle.claims.proofs.Runs.{map-each, each-select, each-of-take, each-agree, each-append}
 use Rattle.claims.proofs.TableRows.{length-rows-of, row-behind}
 use Rattle.claims.proofs.Reached.{claimed}
@@ -25,7 +25,7 @@ use Rattle.fails.specs.Recent.{dueType, dueClaim, recentClaims}
 module _ (calendar tables : List ℕ) (day number : ℕ) (t : Transfer) (w : Recent) where
   -- ---- the claim on a row, by its words
 
-  module _ (i claimType : ℕ) (e : claimType ≡ dueType w (rowOf i (wordsAt tables (t .security) i))) where
+  module _ (i claimType : ℕ) (e : claimType ≡ dueType day w (rowOf i (wordsAt tables (t .security) i))) where
     pub due-none : claimType ≡ 0 → dueClaim calendar tables day number t w (rowAt tables (t .security) i) ≡ []
     unfolding dueClaim
     due-none z = rw (← words-row tables (t .security) i, ← e, eq-eqb claimType 0 z)
@@ -49,8 +49,8 @@ module _ (calendar tables : List ℕ) (day number : ℕ) (t : Transfer) (w : Rec
     abbrev dueAt : ℕ → List Claim
     dueAt i = dueClaim calendar tables day number t w (here i)
 
-    abbrev after : Row → Bool
-    after row = ltb (w .after) (row .beneficiaryDate)
+    abbrev kept : Row → Bool
+    kept row = isKeptBy (w .after) (w .waiting) day row
 
     abbrev claim : ℕ → Row → Claim
     claim = claimed calendar tables day number t
@@ -58,9 +58,9 @@ module _ (calendar tables : List ℕ) (day number : ℕ) (t : Transfer) (w : Rec
     long : (k n : ℕ) → k ≤ n → n ≤ 16 → n - k ≤ length (drop k rows)
     long k n h m = omega (arith, length-drop k rows, length-rows-of tables (t .security))
 
-    fail-at : (i : ℕ) → i < w .reached → cond (after (here i)) (claim failType (here i) ∷ []) [] ≡ dueAt i
+    fail-at : (i : ℕ) → i < w .reached → cond (kept (here i)) (claim failType (here i) ∷ []) [] ≡ dueAt i
     unfolding dueClaim dueType rowAt rowOf
-    fail-at i h = rw (lt-ltb i (w .reached) h) (go (after (here i)))
+    fail-at i h = rw (lt-ltb i (w .reached) h) (go (kept (here i)))
       where
         go : (b : Bool) → cond b (claim 1 (here i) ∷ []) [] ≡ cond (eqb (cond b 1 0) 0) [] (claim (cond b 1 0) (here i) ∷ [])
         go true = refl
@@ -70,14 +70,14 @@ module _ (calendar tables : List ℕ) (day number : ℕ) (t : Transfer) (w : Rec
     unfolding dueClaim dueType rowAt rowOf
     interim-at i h = rw (le-ltb i (w .reached) h)
 
-    fail-part : map (claim failType) (select after (take (w .reached - w .first) (drop (w .first) rows)))
+    fail-part : map (claim failType) (select kept (take (w .reached - w .first) (drop (w .first) rows)))
         ≡ each (w .reached - w .first) (λ j. dueAt (w .first + j))
     fail-part =
         map-each (claim failType) _
-        ∙ each-select after (λ row. claim failType row ∷ []) _
+        ∙ each-select kept (λ row. claim failType row ∷ []) _
         ∙ each-of-take _ (drop (w .first) rows) (here 0) (w .reached - w .first) (long (w .first) (w .reached) a (omega arith))
         ∙ each-agree _ _ (w .reached - w .first) (λ j h.
-        ap (λ (row : Row). cond (after row) (claim failType row ∷ []) []) (row-behind tables (t .security) (w .first) j (here 0) (omega arith))
+        ap (λ (row : Row). cond (kept row) (claim failType row ∷ []) []) (row-behind tables (t .security) (w .first) j (here 0) (omega arith))
         ∙ fail-at (w .first + j) (omega arith))
 
     interim-part : map (claim interimType) (take (w .end - w .reached) (drop (w .reached) rows)) ≡ each (w .end - w .reached) (λ j. dueAt (w .reached + j))
@@ -89,7 +89,7 @@ module _ (calendar tables : List ℕ) (day number : ℕ) (t : Transfer) (w : Rec
         ∙ interim-at (w .reached + j) (omega arith))
 
     -- the fail claims on the rows up to the reached ones, then the interim claims on the rest
-    pub due-each : map (claim failType) (select after (take (w .reached - w .first) (drop (w .first) rows)))
+    pub due-each : map (claim failType) (select kept (take (w .reached - w .first) (drop (w .first) rows)))
         ++ map (claim interimType) (take (w .end - w .reached) (drop (w .reached) rows))
         ≡ recentClaims calendar tables day number t w
     unfolding recentClaims

@@ -1,5 +1,5 @@
 -- The rows on which a transfer claims, found once for the pass that counts its claims and the pass that stores them: those from the
--- first up to the reached ones are claimed as failed where the Contract Date allows, those from there up to the end as interim.
+-- first up to the reached ones are claimed as failed where the Contract Date and the cut allow, those from there up to the end as interim.
 use mathlib.Core.Bool.{cond}
 use mathlib.Core.List.{List, [], _∷_}
 use Prim.Native.Nat.{ℕ, _+_, _-_}
@@ -12,14 +12,14 @@ use Rattle.tags.specs.declared.Tag.{Tag}
 use Rattle.tags.specs.ContractDateTag.{tagged, contractDate}
 use Rattle.claims.specs.Amounts.{failType, interimType, claimOn}
 use Rattle.claims.specs.Fails.{maximumOf, transferParties}
-use Rattle.claims.specs.Reached.{rowAt, reachedRows, interimEnd}
+use Rattle.claims.specs.Reached.{rowAt, reachedRows, interimEnd, waitingRow, isKeptBy}
 use Rattle.fails.specs.declared.Recent.{Recent}
 
 -- ---- the rows
 
 -- No rows: the tracking code is not 0.
 unfoldable pub noRows : Recent
-noRows = record { after = 0; first = 0; reached = 0; end = 0 }
+noRows = record { after = 0; first = 0; reached = 0; end = 0; waiting = 0 }
 
 -- The first row that a transfer may claim as failed: of those that the day has reached by Beneficiary Date the most recent count, up to
 -- the published maximum number; without a tag none does.
@@ -32,21 +32,30 @@ firstRow tables day t tag =
 unfoldable pub recentRows : List ℕ → ℕ → Transfer → Tag → Recent
 recentRows tables day t tag =
     let s = t .security in
+    let contract = contractDate tag in
+    let first = firstRow tables day t tag in
     cond (eqb (t .code) 0)
-    (record { after = contractDate tag; first = firstRow tables day t tag; reached = reachedRows tables s day; end = interimEnd tables s day })
+    (record {
+      after = contract;
+      first = first;
+      reached = reachedRows tables s day;
+      end = interimEnd tables s day;
+      waiting = waitingRow tables s contract day first;
+    })
     noRows
 
 -- ---- their claims
 
 -- The claim type of a row, 0 where it is not claimed: behind the reached rows it is interim; one of them is claimed as failed if its
--- Beneficiary Date is after the Contract Date.
-unfoldable pub dueType : Recent → Row → ℕ
-dueType rows row = cond (ltb (row .index) (rows .reached)) (cond (ltb (rows .after) (row .beneficiaryDate)) failType 0) interimType
+-- Beneficiary Date is after the Contract Date and the cut leaves it.
+unfoldable pub dueType : ℕ → Recent → Row → ℕ
+dueType day rows row =
+    cond (ltb (row .index) (rows .reached)) (cond (isKeptBy (rows .after) (rows .waiting) day row) failType 0) interimType
 
 -- The claim on a row, or none.
 unfoldable pub dueClaim : List ℕ → List ℕ → ℕ → ℕ → Transfer → Recent → Row → List Claim
 dueClaim calendar tables day number t rows row =
-    cond (eqb (dueType rows row) 0) [] (claimOn calendar tables day number (transferParties t) (t .par) (dueType rows row) row ∷ [])
+    cond (eqb (dueType day rows row) 0) [] (claimOn calendar tables day number (transferParties t) (t .par) (dueType day rows row) row ∷ [])
 
 -- The claims on the rows, one after the other.
 unfoldable pub recentClaims : List ℕ → List ℕ → ℕ → ℕ → Transfer → Recent → List Claim

@@ -1,25 +1,29 @@
-// The claims of a transfer (document 01, section Fail claims; document 02, card 1, interim claims). Failed: the most recent rows that
-// the day has reached by Beneficiary Date, up to the published maximum number, and of these each with a Beneficiary Date after the
-// Contract Date. Interim: the rows behind them that it has reached by Record Date. Tables keep their rules, so filled rows come first
-// and both dates rise. A pass with write false counts the claims, one with write true stores them too.
+// The claims of a transfer (document 01, section Fail claims; document 02, card 1, interim claims, and card 2, long-delay pools). Failed:
+// the most recent rows that the day has reached by Beneficiary Date, up to the published maximum number, and of these each with a
+// Beneficiary Date after the Contract Date; MBS leaves out those that wait for their Payment Date behind the first that does. Interim: the
+// rows behind them that it has reached by Record Date. Tables keep their rules, so filled rows come first and both dates rise. A pass with
+// write false counts the claims, one with write true stores them too.
 ghost use mathlib.Core.Path.{_≡_};
+ghost use mathlib.Core.Bool.{_&&_};
 ghost use Prim.Native.Nat.{_+_, _-_, _≤_, _<_};
+ghost use lib.Dec.{ltb};
 ghost use lib.ListN.{length};
 ghost use Rattle.securities.specs.Securities.{securityOf, frequencyOf, rowOf};
 ghost use Rattle.claims.specs.Fails.{maximumNumbers, isMbs, maximumFor};
 ghost use Rattle.claims.specs.Passes.{Free, Passed};
-ghost use Rattle.claims.specs.Reached.{rowAt, reachedFrom, reachedRows, interimEnd, Claiming};
+ghost use Rattle.claims.specs.Reached.{rowAt, reachedFrom, reachedRows, interimEnd, waitingRow, Claiming};
 ghost use Rattle.fails.specs.Recent.{noRows, recentRows, dueType, dueClaim, recentClaims};
 use records::Transfer;
 use tags::Tag;
 
-// The rows on which a transfer claims: those from first up to reached as failed if their Beneficiary Date is after the Contract Date,
-// those from reached up to end as interim.
+// The rows on which a transfer claims: those from first up to reached as failed if their Beneficiary Date is after the Contract Date and,
+// behind the waiting row, their Payment Date is not after the day; those from reached up to end as interim.
 pub struct Recent {
     pub after: u32,
     pub first: u8,
     pub reached: u8,
     pub end: u8,
+    pub waiting: u8,
 }
 
 // The word of a row that holds its Record Date.
@@ -27,6 +31,9 @@ const RECORD_DATE: usize = 0;
 
 // The word of a row that holds its Beneficiary Date.
 const BENEFICIARY_DATE: usize = 1;
+
+// The word of a row that holds its Payment Date.
+const PAYMENT_DATE: usize = 2;
 
 // The claim type of a row that is not claimed.
 const NONE: u8 = 0;
@@ -82,6 +89,41 @@ fn interim_end(tables: &[u32], security: u8, day: u32, reached: u8) -> u8
     reached_rows(tables, security, day, RECORD_DATE, reached)
 }
 
+// Whether a row waits for its Payment Date and has its Beneficiary Date after the Contract Date.
+fn is_waiting(contract: u32, day: u32, beneficiary_date: u32, payment_date: u32) -> bool
+    ensures { λ r. ⌜ r ≡ (ltb contract «beneficiary_date» && ltb day «payment_date») ⌝ }
+{
+    if beneficiary_date <= contract {
+        return false;
+    }
+    day < payment_date
+}
+
+// The first row of MBS, from a first one up to the reached ones, that waits for its Payment Date and has its Beneficiary Date after the
+// Contract Date; the row behind them for other types and where there is none.
+fn waiting_row(tables: &[u32], security: u8, contract: u32, day: u32, first: u8, reached: u8) -> u8
+    requires { ⌜ (length (now tables) ≡ 1824) × (security < 16) × (first ≤ reached) × (reached ≡ reachedRows (now tables) security day) ⌝ }
+    ensures { λ r. ⌜ r ≡ waitingRow (now (tables .entry)) security contract day first ⌝ }
+{
+    if !is_mbs(securities::security_type(tables, security as usize)) {
+        return reached;
+    }
+    let mut i = first;
+    while i < reached {
+        let at = 114 * (security as usize) + 2 + 7 * (i as usize);
+        if is_waiting(
+            contract,
+            day,
+            tables[at + BENEFICIARY_DATE],
+            tables[at + PAYMENT_DATE],
+        ) {
+            return i;
+        }
+        i += 1;
+    }
+    reached
+}
+
 // The first of the last rows, up to a maximum number, of n.
 fn first_of_last(n: u8, maximum: u8) -> u8
     ensures { λ r. ⌜ r ≡ n - maximum ⌝ }
@@ -101,6 +143,7 @@ fn no_rows() -> Recent
         first: 0,
         reached: 0,
         end: 0,
+        waiting: 0,
     }
 }
 
@@ -120,6 +163,7 @@ pub fn recent_rows(tables: &[u32], day: u32, t: Transfer, tag: Tag) -> Recent
             first: reached,
             reached,
             end,
+            waiting: reached,
         };
     };
     let s = t.security as usize;
@@ -127,23 +171,31 @@ pub fn recent_rows(tables: &[u32], day: u32, t: Transfer, tag: Tag) -> Recent
         securities::security_type(tables, s),
         securities::frequency(tables, s),
     );
+    let first = first_of_last(reached, maximum);
     Recent {
         after: date.0,
-        first: first_of_last(reached, maximum),
+        first,
         reached,
         end,
+        waiting: waiting_row(tables, t.security, date.0, day, first, reached),
     }
 }
 
 // The claim type of a row, none where it is not claimed.
-fn due_type(rows: Recent, index: u8, row: &[u32]) -> u8
+fn due_type(rows: Recent, day: u32, index: u8, row: &[u32]) -> u8
     requires { ⌜ length (now row) ≡ 7 ⌝ }
-    ensures { λ r. ⌜ r ≡ dueType rows (rowOf index (now (row .entry))) ⌝ }
+    ensures { λ r. ⌜ r ≡ dueType day rows (rowOf index (now (row .entry))) ⌝ }
 {
     if rows.reached <= index {
         return amounts::INTERIM;
     }
     if row[BENEFICIARY_DATE] <= rows.after {
+        return NONE;
+    }
+    if index <= rows.waiting {
+        return amounts::FAIL;
+    }
+    if day < row[PAYMENT_DATE] {
         return NONE;
     }
     amounts::FAIL
@@ -167,7 +219,7 @@ fn pass_row(
 {
     let at = 114 * (t.security as usize) + 2 + 7 * (index as usize);
     let row = &tables[at..at + 7];
-    let claim_type = due_type(rows, index, row);
+    let claim_type = due_type(rows, day, index, row);
     if claim_type == NONE {
         return n;
     }

@@ -1,13 +1,13 @@
--- The elements that pass a test, the last elements of a list, and lists whose keys rise.
-use mathlib.Core.Path.{_≡_, refl, ap}
-use mathlib.Core.Bool.{Bool, true, false, cond, _&&_, _||_}
+-- The elements that pass a test, the last elements of a list, and lists whose keys rise; of the elements that pass a test, the first alone.
+use mathlib.Core.Path.{_≡_, refl, ap, _∙_}
+use mathlib.Core.Bool.{Bool, true, false, cond, not, _&&_, _||_, and-true, and-false}
 use mathlib.Core.List.{List, [], _∷_, _++_}
 use Prim.Native.Nat.{ℕ, zero, suc, _-_, _≤_, _<_}
 use native.Mathlib.Omega.{arith}
 use lib.Dec.{ltb}
 use lib.ListN.{length, drop}
 use lib.Seq.{drop-nil}
-use borrow.Author.Tests.{ltb-true, ltb-false}
+use borrow.Author.Tests.{ltb-true, ltb-false, lt-ltb, le-ltb}
 use Rattle.lists.specs.Tests.{and-left, and-right, and-both}
 use Rattle.lists.specs.All.{all}
 
@@ -19,6 +19,16 @@ select p (x ∷ xs) = cond (p x) (x ∷ select p xs) (select p xs)
 -- the last n elements, all of them where there are no more
 unfoldable pub lastOf : {A : Type 0} → ℕ → List A → List A
 lastOf n xs = drop (length xs - n) xs
+
+-- of the elements that pass the test the first alone; all others
+unfoldable pub keepFirst : {A : Type 0} → (A → Bool) → List A → List A
+keepFirst p [] = []
+keepFirst p (x ∷ xs) = x ∷ cond (p x) (select (λ y. not (p y)) xs) (keepFirst p xs)
+
+-- the key of the first element that passes the test, n where none does
+unfoldable pub firstKey : {A : Type 0} → (A → ℕ) → ℕ → (A → Bool) → List A → ℕ
+firstKey key n p [] = n
+firstKey key n p (x ∷ xs) = cond (p x) (key x) (firstKey key n p xs)
 
 -- each element's key is above those of the elements before it
 unfoldable pub rising : {A : Type 0} → (A → ℕ) → List A → Bool
@@ -117,6 +127,15 @@ module _ {A : Type 0} where
       go true ih = and-both (all-select _ p xs (and-left (all (λ y. ltb (key x) (key y)) xs) (rising key xs) t)) ih
       go false ih = ih
 
+  pub rising-last : (key : A → ℕ) (n : ℕ) (xs : List A) → rising key xs ≡ true → rising key (lastOf n xs) ≡ true
+  unfolding lastOf rising
+  rising-last key n xs t = go (length xs - n) xs t
+    where
+      go : (k : ℕ) (xs : List A) → rising key xs ≡ true → rising key (drop k xs) ≡ true
+      go zero xs t = t
+      go (suc k) [] t = refl
+      go (suc k) (x ∷ xs) t = go k xs (and-right (all (λ y. ltb (key x) (key y)) xs) (rising key xs) t)
+
   -- where keys rise, the elements of a test that holds up to n come before those of a test that holds above n
   pub select-halves : (key : A → ℕ) (n : ℕ) (f g : A → Bool) (xs : List A) → rising key xs ≡ true → ((x : A) → f x ≡ true → key x ≤ n)
       → ((x : A) → g x ≡ true → n < key x) → select f xs ++ select g xs ≡ select (λ x. f x || g x) xs
@@ -144,3 +163,73 @@ module _ {A : Type 0} where
           let none : select f xs ≡ [] = select-none f _ xs (and-left (all (λ y. ltb (key x) (key y)) xs) (rising key xs) t) (later (k x q)) in
           rw none (ap (_∷_ x) (rw none at ih))
       go false false p q ih = ih
+
+  -- ---- the first of those that pass a test
+
+  pub all-keep-first : (q p : A → Bool) (xs : List A) → all q xs ≡ true → all q (keepFirst p xs) ≡ true
+  unfolding all keepFirst
+  all-keep-first q p [] t = refl
+  all-keep-first q p (x ∷ xs) t =
+      let rest = and-right (q x) (all q xs) t in
+      and-both (and-left (q x) (all q xs) t) (go (p x) (all-select q _ xs rest) (all-keep-first q p xs rest))
+    where
+      go : (b : Bool) → all q (select (λ y. not (p y)) xs) ≡ true → all q (keepFirst p xs) ≡ true
+          → all q (cond b (select (λ y. not (p y)) xs) (keepFirst p xs)) ≡ true
+      go true s k = s
+      go false s k = k
+
+  -- the first key of those that pass another test
+  pub first-key-select : (key : A → ℕ) (n : ℕ) (p q : A → Bool) (xs : List A) → firstKey key n p (select q xs) ≡ firstKey key n (λ x. q x && p x) xs
+  unfolding select firstKey
+  first-key-select key n p q [] = refl
+  first-key-select key n p q (x ∷ xs) = go (q x) (first-key-select key n p q xs)
+    where
+      go : (b : Bool) → firstKey key n p (select q xs) ≡ firstKey key n (λ x. q x && p x) xs
+          → firstKey key n p (cond b (x ∷ select q xs) (select q xs)) ≡ cond (b && p x) (key x) (firstKey key n (λ x. q x && p x) xs)
+      go true ih = ap (cond (p x) (key x)) ih
+      go false ih = ih
+
+  -- where keys rise, those kept are all but the ones behind the first key that pass the test
+  pub keep-first-key : (key : A → ℕ) (n : ℕ) (p : A → Bool) (xs : List A) → rising key xs ≡ true
+      → keepFirst p xs ≡ select (λ x. not (ltb (firstKey key n p xs) (key x) && p x)) xs
+  unfolding keepFirst select firstKey rising
+  keep-first-key key n p [] t = refl
+  keep-first-key key n p (x ∷ xs) t =
+      go (p x) refl (keep-first-key key n p xs (and-right (all (λ y. ltb (key x) (key y)) xs) (rising key xs) t))
+    where
+      first : Bool → ℕ
+      first b = cond b (key x) (firstKey key n p xs)
+
+      go : (b : Bool) → p x ≡ b → keepFirst p xs ≡ select (λ y. not (ltb (firstKey key n p xs) (key y) && p y)) xs
+          → x ∷ cond b (select (λ y. not (p y)) xs) (keepFirst p xs)
+          ≡ cond (not (ltb (first b) (key x) && p x)) (x ∷ select (λ y. not (ltb (first b) (key y) && p y)) xs)
+          (select (λ y. not (ltb (first b) (key y) && p y)) xs)
+      go true e ih =
+          rw (le-ltb (key x) (key x) (omega arith))
+          (ap (_∷_ x) (select-agree _ _ _ xs (and-left (all (λ y. ltb (key x) (key y)) xs) (rising key xs) t) (λ y h. rw h)))
+      go false e ih = rw (e, and-false (ltb (firstKey key n p xs) (key x))) (ap (_∷_ x) ih)
+
+  -- in other words: an element is dropped if it passes the test and one of a lower key does
+  pub keep-first-words : (key : A → ℕ) (p : A → Bool) (xs : List A) → rising key xs ≡ true
+      → keepFirst p xs ≡ select (λ x. not (p x && ltb 0 (length (select (λ y. ltb (key y) (key x) && p y) xs)))) xs
+  unfolding keepFirst select rising
+  keep-first-words key p [] t = refl
+  keep-first-words key p (x ∷ xs) t =
+      let none : select (λ y. ltb (key y) (key x) && p y) xs ≡ []
+      = select-none _ _ xs later (λ y h. rw (le-ltb (key y) (key x) (omega (arith, ltb-true (key x) (key y) h)))) in
+      rw (le-ltb (key x) (key x) (omega arith), none, and-false (p x))
+      (ap (_∷_ x) (go (p x) refl (keep-first-words key p xs (and-right (all (λ y. ltb (key x) (key y)) xs) (rising key xs) t))))
+    where
+      later : all (λ y. ltb (key x) (key y)) xs ≡ true
+      later = and-left (all (λ y. ltb (key x) (key y)) xs) (rising key xs) t
+
+      earlier : List A → A → List A
+      earlier zs y = select (λ z. ltb (key z) (key y) && p z) zs
+
+      dropped : List A → A → Bool
+      dropped zs y = p y && ltb 0 (length (earlier zs y))
+
+      go : (b : Bool) → p x ≡ b → keepFirst p xs ≡ select (λ y. not (dropped xs y)) xs
+          → cond b (select (λ y. not (p y)) xs) (keepFirst p xs) ≡ select (λ y. not (dropped (x ∷ xs) y)) xs
+      go true e ih = select-agree _ _ _ xs later (λ y h. rw (h, e, lt-ltb 0 (suc (length (earlier xs y))) (omega arith), and-true (p y)))
+      go false e ih = ih ∙ select-agree _ _ _ xs later (λ y h. rw (h, e))

@@ -67,13 +67,17 @@ maximum-for-requires c κs = subst⁻¹ (λ (k : ℕ). k ≤ 4) (c .frequency .e
 first-of-last-requires : tie.Need-first-of-last-requires
 first-of-last-requires c κs = search needs
 
+waiting-row-requires : tie.Need-waiting-row-requires
+unfolding reachedRows
+waiting-row-requires c κs = search needs
+
 returns-3 : tie.Need-returns-3
 unfolding reachedRows maximumOf
 returns-3 c =
-    let s = c .before .before .before .before .before .before .before .before in
-    rows-tagged _ _ _ _ (s .before .before .if1 .left) (s .before .reached-rows .ensures) (s .interim-end .ensures) (c .before .before .before .before .before .before .tag .given .1)
-    (c .before .maximum-for .ensures ∙ ap₂ (maximumFor maximumNumbers) (c .before .before .before .security-type .ensures) (c .before .before .frequency .ensures))
-    (c .first-of-last .ensures)
+    let s = c .before .before .before .before .before .before .before .before .before in
+    rows-tagged _ _ _ _ (s .before .before .if1 .left) (s .before .reached-rows .ensures) (s .interim-end .ensures) (c .before .before .before .before .before .before .before .tag .given .1)
+    (c .before .before .maximum-for .ensures ∙ ap₂ (maximumFor maximumNumbers) (c .before .before .before .before .security-type .ensures) (c .before .before .before .frequency .ensures))
+    (c .before .first-of-last .ensures) (c .waiting-row .ensures)
 
 pub recent-rows-spec : {M : Type 1} → statement M
 recent-rows-spec =
@@ -90,4 +94,5 @@ recent-rows-spec =
     frequency-requires
     maximum-for-requires
     first-of-last-requires
+    waiting-row-requires
     returns-3)
