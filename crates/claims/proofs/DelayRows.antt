@@ -32,13 +32,13 @@ unfoldable pub july : List ℕ
 july = dated 20230701 20230701 20230825 0
 
 -- rows of the first of January to September 2023 that are paid a year later, but for the third
-year : ℕ → List ℕ
+unfoldable pub year : ℕ → List ℕ
 year march = each 9 (λ m. dated (20230101 + 100 * m) (20230101 + 100 * m) (cond (eqb m 2) march (20240101 + 100 * m)) 0)
 
 -- securities 0 to 9: MBS; MBS whose third row is paid before its second; MBS whose second row is paid on 5 July; debt; MBS guaranteed by
 -- the United States; MBS whose fourth Beneficiary Date is 15 July; MBS paid a year later; the same but for its third row; MBS whose third
 -- row is masked for account 1; a Treasury
-delays : List ℕ
+unfoldable pub delays : List ℕ
 delays =
     monthly 3 (late ++ july)
     ++ (monthly 3 (spring 20230525 20230725 20230703 0 ++ july)

@@ -1,6 +1,6 @@
 -- Computed rows: the number of a call where two neighbouring causes apply, each by its own, and where none does, at full size; the
--- answers of a list of calls with all their bytes; what a list with interim claims pays and owes; and a list whose tables change on the
--- way.
+-- answers of a list of calls with all their bytes; what lists with interim claims and with rows that wait pay and owe; and a list whose
+-- tables change on the way.
 use mathlib.Core.Path.{_≡_, refl}
 use mathlib.Core.Bool.{Bool, true, false, _&&_}
 use mathlib.Core.List.{List, [], _∷_, _++_}
@@ -12,6 +12,7 @@ use Rattle.days.specs.Weekdays.{weekdays}
 use Rattle.securities.specs.Cases.{caseTables}
 use Rattle.claims.specs.Amounts.{ofInterest, Parties}
 use Rattle.claims.proofs.InterimRows.{threeRows}
+use Rattle.claims.proofs.DelayRows.{dated, monthly, spring, july, year, delays}
 use Rattle.book.specs.declared.Book.{Book}
 use Rattle.history.specs.Calls.{Call, transfer, close}
 use Rattle.history.specs.Causes.{numberFor}
@@ -170,6 +171,10 @@ rows =
     row weekdays threeRows 20231207 0 zeros (sent 1 1 2 0 0 0 100000 (tagLine 20230915) 105) 0
     ∷  -- room for one interim claim of two, without a tag
     row weekdays threeRows 20231207 0 zeros (sent 1 1 2 0 0 0 100000 blank 69) 10
+    ∷  -- room for two fail claims of three, a fourth row being dropped
+    row weekdays delays 20230705 0 zeros (sent 1 1 2 0 0 0 100000 (tagLine 20230315) 104) 10
+    ∷  -- room for the three
+    row weekdays delays 20230705 0 zeros (sent 1 1 2 0 0 0 100000 (tagLine 20230315) 105) 0
     ∷  -- no claims need no room
     row weekdays caseTables 20230404 0 zeros (sent 1 1 2 0 0 5 200000 (tagLine 20230315) 0) 0
     ∷  -- a close
@@ -290,6 +295,22 @@ interimHistory =
     && eqb (owed weekdays threeRows ofInterest (eqb 0) (entries 20231207 interimCalls) senderToReceiver) 50000
     && eqb (owed weekdays threeRows ofInterest (eqb 2) (entries 20231207 interimCalls) senderToReceiver) 100000
 
+-- ---- rows that wait
+
+-- the earliest row that waits is the third; the fourth
+delayCalls : List Call
+delayCalls = sent 1 1 2 0 0 0 100000 (tagLine 20230315) 105 ∷ sent 1 1 2 0 0 0 100000 (tagLine 20230601) 105 ∷ []
+
+-- the first transfer's fourth row is neither paid nor owed, the second's is both
+delayHistory : Bool
+delayHistory =
+    let r = runFrom weekdays delays (opened weekdays delays sevens 20230705) delayCalls in
+    sameNumbers (counted (r .answers)) (0 ∷ 3 ∷ 0 ∷ 1 ∷ [])
+    && eqb (paid ofInterest (λ row. true) (recordsIn (r .answers)) senderToReceiver) 200000
+    && eqb (owed weekdays delays ofInterest (λ row. true) (entries 20230705 delayCalls) senderToReceiver) 200000
+    && eqb (owed weekdays delays ofInterest (eqb 2) (entries 20230705 delayCalls) senderToReceiver) 50000
+    && eqb (owed weekdays delays ofInterest (eqb 3) (entries 20230705 delayCalls) senderToReceiver) 50000
+
 -- ---- tables that change
 
 -- the next payment of the security, as its first row
@@ -332,7 +353,7 @@ unfolding openedHistory tag line tagLine blank twoTags openTag badTag sent closi
 openedRows = 0
 
 rows-hold : openings && all (λ r. eqb (numberFor (r .calendar) (r .tables) (r .book) (r .balances) (r .call)) (r .number)) rows ≡ true
-unfolding openedRows held near lastTables lateTables threeRows rows opening openings
+unfolding openedRows held near lastTables lateTables threeRows dated monthly spring july year delays rows opening openings
 rows-hold = refl
 
 history-holds : history ≡ true
@@ -342,6 +363,10 @@ history-holds = refl
 interim-holds : interimHistory ≡ true
 unfolding openedRows threeRows interimCalls entries counted senderToReceiver sameNumbers interimHistory
 interim-holds = refl
+
+delay-holds : delayHistory ≡ true
+unfolding openedRows dated monthly spring july year delays delayCalls entries counted senderToReceiver sameNumbers delayHistory
+delay-holds = refl
 
 periods-hold : periods ≡ true
 unfolding openedRows apartTables laterTables onSevens firstCalls laterCalls answered found laterAnswers borrowerToLender entries sameNumbers periods
