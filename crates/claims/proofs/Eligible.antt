@@ -12,7 +12,7 @@ use lib.Dec.{ltb, leb}
 use borrow.Author.Tests.{ltb-true, ltb-false, leb-true, leb-false, lt-ltb, le-ltb, le-leb, lt-leb}
 use Rattle.lists.specs.Tests.{and-left, and-right, and-both}
 use Rattle.lists.specs.All.{all, all-each}
-use Rattle.lists.specs.Select.{select, lastOf, keepFirst, rising, select-agree, select-both, last-none, last-front, rising-select, keep-first-words}
+use Rattle.lists.specs.Select.{select, lastOf, keepFirst, rising, select-agree, select-both, last-none, last-front, rising-select, one-kept, keep-first-words}
 use Rattle.securities.specs.Securities.{Row}
 use Rattle.claims.specs.Fails.{isMbs, eligibleIn, waits, cut}
 
@@ -144,6 +144,11 @@ cut-is type n contract day rows e = rw (eligible-is n contract day rows e) (go (
         ap (λ (l : List Row). not (waits day row && ltb 0 (length l)) && isEligible n contract day rows row)
         (select-both _ (isEligible n contract day rows) rows))
     go false = refl
+
+-- of MBS no more than one is paid after the day
+pub one-waits : (type day : ℕ) (rows : List Row) → 3 ≤ type → length (select (waits day) (cut type day rows)) ≤ 1
+unfolding cut isMbs
+one-waits type day rows h = rw (le-leb 3 type h) (one-kept (waits day) rows)
 
 -- they rise too: no Beneficiary Date is eligible twice
 pub rising-eligible : (type n contract day : ℕ) (rows : List Row) → rising beneficiary rows ≡ true

@@ -52,19 +52,19 @@ interimEnd tables s day =
 unfoldable pub isWaiting : ℕ → ℕ → Row → Bool
 isWaiting contract day row = ltb contract (row .beneficiaryDate) && waits day row
 
--- The number of the first such row of a security from a first one up to an end, that of the end where there is none.
+-- The number of the first such row of a security, from a first one up to an end; the end where there is none.
 unfoldable pub waitingFrom : List ℕ → ℕ → ℕ → ℕ → ℕ → ℕ → ℕ
 waitingFrom tables s contract day end first =
     firstKey (λ row. row .index) end (isWaiting contract day) (take (end - first) (drop first (rowsOf (securityOf tables s))))
 
--- The row from which on the cut drops what waits, that row itself left out: of MBS the first such from a first one up to the reached rows;
--- for other types the row behind these, and so nothing is dropped.
+-- The row behind which the cut drops those that wait: of MBS the first such from a first one up to the reached rows. For other types it
+-- is the row behind the reached ones, and nothing is dropped.
 unfoldable pub waitingRow : List ℕ → ℕ → ℕ → ℕ → ℕ → ℕ
 waitingRow tables s contract day first =
     let reached = reachedRows tables s day in
     cond (isMbs (typeOf (securityOf tables s))) (waitingFrom tables s contract day reached first) reached
 
--- A row with its Beneficiary Date after the Contract Date that is not behind that row, or does not wait.
+-- A row with its Beneficiary Date after the Contract Date; behind the waiting row only if it does not wait itself.
 unfoldable pub isKeptBy : ℕ → ℕ → ℕ → Row → Bool
 isKeptBy contract waiting day row = not (ltb waiting (row .index) && waits day row) && ltb contract (row .beneficiaryDate)
 

@@ -9,7 +9,7 @@ use lib.ListN.{length, drop}
 use lib.Seq.{drop-nil}
 use borrow.Author.Tests.{ltb-true, ltb-false, lt-ltb, le-ltb}
 use Rattle.lists.specs.Tests.{and-left, and-right, and-both}
-use Rattle.lists.specs.All.{all}
+use Rattle.lists.specs.All.{all, all-each}
 
 -- the elements that pass the test, in their order
 unfoldable pub select : {A : Type 0} → (A → Bool) → List A → List A
@@ -177,6 +177,25 @@ module _ {A : Type 0} where
           → all q (cond b (select (λ y. not (p y)) xs) (keepFirst p xs)) ≡ true
       go true s k = s
       go false s k = k
+
+  -- no more than one that passes the test is kept
+  pub one-kept : (p : A → Bool) (xs : List A) → length (select p (keepFirst p xs)) ≤ 1
+  unfolding select keepFirst
+  one-kept p [] = omega arith
+  one-kept p (x ∷ xs) = go (p x) (one-kept p xs)
+    where
+      never : (b : Bool) → b && not b ≡ false
+      never true = refl
+      never false = refl
+
+      none : select p (select (λ y. not (p y)) xs) ≡ []
+      none = select-both p _ xs ∙ select-none _ (λ y. true) xs (all-each _ xs (λ y. refl)) (λ y h. never (p y))
+
+      go : (b : Bool) → length (select p (keepFirst p xs)) ≤ 1
+          → let rest = cond b (select (λ y. not (p y)) xs) (keepFirst p xs) in
+          length (cond b (x ∷ select p rest) (select p rest)) ≤ 1
+      go true h = omega (arith, ap length none)
+      go false h = h
 
   -- the first key of those that pass another test
   pub first-key-select : (key : A → ℕ) (n : ℕ) (p q : A → Bool) (xs : List A) → firstKey key n p (select q xs) ≡ firstKey key n (λ x. q x && p x) xs
