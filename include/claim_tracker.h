@@ -160,9 +160,10 @@ enum claim_tracker_code {
     CLAIM_TRACKER_CODE_ADSR = 6                 /* the balance alone, down */
 };
 
-/* The type of a claim. A transfer without a tracking code in an MBS (types 3 and 4), with a Contract Date or without, gives an interim
-   claim for each row whose Record Date is not after the book's day and whose Beneficiary Date is; amounts and release are those of a
-   fail. */
+/* The type of a claim. In an MBS (types 3 and 4) a fail claims, of its rows whose Payment Date is after the book's day, the first alone;
+   those whose Payment Date is not after it are all claimed. A transfer without a tracking code in an MBS, with a Contract Date or without,
+   gives an interim claim for each row whose Record Date is not after the book's day and whose Beneficiary Date is; amounts and release
+   are those of a fail. */
 enum claim_tracker_claim_type {
     CLAIM_TRACKER_CLAIM_TYPE_FAIL = 1,
     CLAIM_TRACKER_CLAIM_TYPE_INTERIM = 2,
