@@ -78,6 +78,15 @@ fn bits(rows: Range<usize>) -> u32 {
     (1 << rows.end) - (1 << rows.start)
 }
 
+/// The places of the bits that are on, from the lowest.
+fn places(mut bits: u32) -> impl Iterator<Item = usize> {
+    std::iter::from_fn(move || {
+        let place = bits.trailing_zeros();
+        bits &= bits.wrapping_sub(1);
+        (place < u32::BITS).then_some(place as usize)
+    })
+}
+
 /// The rows of a range whose Payment Date is after the day, behind the first such row.
 fn later_waiting(rows: &[Row], range: Range<usize>, day: u32) -> u32 {
     let waiting = range.filter(|&row| day < rows[row][2]).fold(0u32, |all, row| all | 1 << row);
@@ -124,8 +133,8 @@ pub fn write_transfer(
     let count = claimed.rows.count_ones() as usize;
     let room = buffer.get_mut(..CLAIM_BYTES * count).ok_or(10u16)?;
     let (records, _) = room.as_chunks_mut::<CLAIM_BYTES>();
-    let rows = tables::rows(security).iter().enumerate().filter(|(row, _)| claimed.rows >> row & 1 == 1);
-    for (record, (row, words)) in records.iter_mut().zip(rows) {
+    let rows = tables::rows(security);
+    for (record, row) in records.iter_mut().zip(places(claimed.rows)) {
         let due = Due {
             claim_type: if row < claimed.interim { FAIL } else { INTERIM },
             payer: transfer.sender,
@@ -133,7 +142,7 @@ pub fn write_transfer(
             security: transfer.security,
             kind: security[0],
             row: row as u8,
-            words,
+            words: &rows[row],
             transfer: number,
             par: transfer.par as u64,
         };
