@@ -52,9 +52,9 @@
 #include <stdint.h>
 
 #define CLAIM_TRACKER_VERSION_MAJOR 1
-#define CLAIM_TRACKER_VERSION_MINOR 1
+#define CLAIM_TRACKER_VERSION_MINOR 2
 #define CLAIM_TRACKER_VERSION_PATCH 0
-#define CLAIM_TRACKER_VERSION "1.1.0"
+#define CLAIM_TRACKER_VERSION "1.2.0"
 
 /* Every function answers a number that a caller has to look at, and takes no null pointer; compilers that can, watch over both. */
 #if defined(__GNUC__)
@@ -160,9 +160,10 @@ enum claim_tracker_code {
     CLAIM_TRACKER_CODE_ADSR = 6                 /* the balance alone, down */
 };
 
-/* The type of a claim. A transfer without a tracking code in an MBS (types 3 and 4), with a Contract Date or without, gives an interim
-   claim for each row whose Record Date is not after the book's day and whose Beneficiary Date is; amounts and release are those of a
-   fail. */
+/* The type of a claim. In an MBS (types 3 and 4) a fail claims, of its rows whose Payment Date is after the book's day, the first alone;
+   those whose Payment Date is not after it are all claimed. A transfer without a tracking code in an MBS, with a Contract Date or without,
+   gives an interim claim for each row whose Record Date is not after the book's day and whose Beneficiary Date is; amounts and release
+   are those of a fail. */
 enum claim_tracker_claim_type {
     CLAIM_TRACKER_CLAIM_TYPE_FAIL = 1,
     CLAIM_TRACKER_CLAIM_TYPE_INTERIM = 2,

@@ -6,6 +6,11 @@ use bench::rules::{self, RECORD_ROOM};
 use std::collections::BTreeMap;
 use std::fmt::Debug;
 
+const CLAIM_BYTES: usize = 35;
+const FAIL: u8 = 1;
+const ROWS_DROPPED: &str = "fail, rows dropped";
+const PAID_BEHIND: &str = "fail, paid behind";
+
 /// How often each kind of input got each number.
 type Tally = BTreeMap<(&'static str, u16), u64>;
 
@@ -37,6 +42,36 @@ fn compare_open(random: &mut Random, tally: &mut Tally) -> Result<(), String> {
     same_parts("the balances", &ours, &theirs)
 }
 
+/// Counts the outcomes of claims.
+fn count_claims(claims: &[u8], tally: &mut Tally) {
+    for claim in claims.chunks_exact(CLAIM_BYTES) {
+        let name = match claim[4] {
+            FAIL => "fail claim, outcome",
+            2 => "interim claim, outcome",
+            _ => "lending claim, outcome",
+        };
+        *tally.entry((name, claim[5] as u16)).or_default() += 1;
+    }
+}
+
+/// Counts a failed transfer in an MBS by the rows reached on the day that it drops behind the first one that it claims, and by those that it
+/// claims as paid behind one that waits for its Payment Date.
+fn count_waiting(tables: &[u32], day: u32, claims: &[u8], tally: &mut Tally) {
+    let fails: Vec<&[u8]> = claims.chunks_exact(CLAIM_BYTES).filter(|claim| claim[4] == FAIL).collect();
+    let Some(first) = fails.first() else { return };
+    let security = &tables[114 * first[8] as usize..][..114];
+    if !matches!(security[0], 3 | 4) {
+        return;
+    }
+    let row = |place: u8| &security[2 + 7 * place as usize..][..7];
+    let reached = (first[9]..16).filter(|&place| row(place)[1] != 0 && row(place)[1] <= day).count();
+    let is_paid = |claim: &&&[u8]| row(claim[9])[2] <= day;
+    let paid = fails.iter().skip_while(is_paid).filter(is_paid).count();
+    for (name, rows) in [(ROWS_DROPPED, reached - fails.len()), (PAID_BEHIND, paid)] {
+        *tally.entry((name, rows as u16)).or_default() += 1;
+    }
+}
+
 /// A call on the same book from both, again and again on what the last one left.
 fn compare_calls(random: &mut Random, tally: &mut Tally) -> Result<(), String> {
     let world = inputs::world(random);
@@ -58,17 +93,12 @@ fn compare_calls(random: &mut Random, tally: &mut Tally) -> Result<(), String> {
             ("transfer", library, rust)
         };
         *tally.entry((name, library.number)).or_default() += 1;
-        for claim in our_claims.chunks_exact(35).take(library.claims) {
-            let name = match claim[4] {
-                1 => "fail claim, outcome",
-                2 => "interim claim, outcome",
-                _ => "lending claim, outcome",
-            };
-            *tally.entry((name, claim[5] as u16)).or_default() += 1;
-        }
         same("the answer", &library, &rust)?;
         same_parts("the balances", &ours, &theirs)?;
         same_parts("the claim buffer", &our_claims, &their_claims)?;
+        let claims = &our_claims[..CLAIM_BYTES * library.claims];
+        count_claims(claims, tally);
+        count_waiting(tables, book.day, claims, tally);
         book = library.book;
     }
     Ok(())
@@ -117,6 +147,16 @@ fn compare_serve(random: &mut Random, tally: &mut Tally) -> Result<(), String> {
     }
 }
 
+/// What a comparison of many inputs has to meet: a failed transfer that drops a row, and one that claims a paid row behind one that waits.
+fn judge(tally: &Tally, count: u64) -> Result<(), String> {
+    const MANY: u64 = 10_000;
+    let is_met = |name: &str| tally.keys().any(|&(kind, rows)| kind == name && rows > 0);
+    match [ROWS_DROPPED, PAID_BEHIND].into_iter().find(|name| !is_met(name)) {
+        Some(name) if count >= MANY => Err(format!("{count} inputs and none with '{name}'")),
+        _ => Ok(()),
+    }
+}
+
 /// Compares on so many inputs from a seed.
 pub fn run(seed: u64, count: u64) -> Result<(), String> {
     let mut tally = Tally::new();
@@ -134,8 +174,8 @@ pub fn run(seed: u64, count: u64) -> Result<(), String> {
     }
     println!("{count} inputs from seed {seed}, no difference in any answer, book, balance, claim buffer or output");
     println!("how often each number was answered, and each outcome given:");
-    for ((name, number), times) in tally {
+    for ((name, number), times) in &tally {
         println!("  {name:22} {number:3} {times:9}");
     }
-    Ok(())
+    judge(&tally, count)
 }

@@ -121,13 +121,14 @@ fn mask(random: &mut Random) -> u32 {
 }
 
 /// Rows that keep the rules where the calendar's last open day is late enough; their Beneficiary Dates lie a few days or weeks behind their
-/// Record Dates.
+/// Record Dates, and their Payment Dates, in any order, some weeks or a year behind both.
 fn rows(random: &mut Random, count: usize, words: &mut [u32], step: u64) {
     let mut record = random.from(6900, 7400);
     let lag = random.pick(&[5, 60]);
+    let delay = random.pick(&[40, 400]);
     let mut beneficiary = record + random.below(lag);
     for row in words.chunks_mut(7).take(count) {
-        let payment = record.max(beneficiary) + random.below(40);
+        let payment = record.max(beneficiary) + random.below(delay);
         let last = random.one_in(6) as u32;
         row.copy_from_slice(&[
             date(record),

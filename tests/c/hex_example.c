@@ -1,6 +1,6 @@
 /* Replays document 01's hex example through the exported functions: the book opened on 20230404 with the cases' tables, the first
-   case's transfer from account 1 to 2, and all bytes that come out. Then the codecs both ways, an interim claim, a close, refusals, and
-   both calls on the caller's own book. */
+   case's transfer from account 1 to 2, and all bytes that come out. Then the codecs both ways, two payments that wait for their Payment
+   Dates, an interim claim, a close, refusals, and both calls on the caller's own book. */
 #include <stdio.h>
 #include <string.h>
 
@@ -134,6 +134,16 @@ int main(void) {
     served = claim_tracker_serve(calendar, 480, tables, 1824, served.book, balances, 4096, records, sizeof records, true, output,
                                  CLAIM_TRACKER_RECORD_ROOM - 1);
     check("and one that has no room at all", served.consumed == 0 && served.written == 0 && !served.over && served.full);
+
+    tables[4] = 20230515;
+    book = claim_tracker_open(calendar, 480, tables, 1824, balances, 4096, 20230502).book;
+    done = claim_tracker_transfer(calendar, 480, tables, 1824, book, balances, 4096, message, sizeof message, out, 35);
+    claim = claim_tracker_read_claim(out, sizeof out);
+    check("April's payment alone where May's waits too", done.number == 0 && done.claims == 1 && claim.number == 0
+                                                             && claim.claim.claim_type == CLAIM_TRACKER_CLAIM_TYPE_FAIL
+                                                             && claim.claim.row == 0 && claim.claim.release == 20230515
+                                                             && claim.claim.slot == 3);
+    case_tables();
 
     memset(first, ' ', sizeof first);
     tables[9] = 20230403;

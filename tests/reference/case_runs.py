@@ -1,5 +1,5 @@
 """Document 01's cases that no theorem states, its mistakes to rule out, the fail, interim and lending examples of source document 001
-(Clearing Memo 278), Attachment II, and the edges of the rule of interim claims, by the reference.
+(Clearing Memo 278), Attachment II, and the edges of the rules of interim claims and of pools that pay late, by the reference.
 
     python3 case_runs.py REFERENCE_FOLDER STEPS_FILE
 
@@ -161,6 +161,60 @@ def interim():
         run.transfer("%d-beneficiary-date-before-record-date" % day, X, Y, beneficiary_first, 75_000)
 
 
+def rows_from(first, payments):
+    """Rows with Record and Beneficiary Dates on the first of each month from this date on, and these Payment Dates."""
+    return [ref.Row(date, date, payment, 5_000_000, 0, 0, 0) for date, payment in zip(range(first, first + 1200, 100), payments)]
+
+
+def changed(rows, r, **words):
+    """The rows with words of one of them changed."""
+    return rows[:r] + [rows[r]._replace(**words)] + rows[r + 1:]
+
+
+def late_pools():
+    """Securities by name, each with its type and rows; on 20230705 some rows of each wait for their Payment Dates."""
+    pool = rows_from(20230401, (20230525, 20230625, 20230725, 20230825))
+    nine = rows_from(20230101, range(20240101, 20240902, 100))
+    return {"type-%d" % kind: (kind, pool) for kind in (1, 2, 3, 4)} | {
+        "paid-behind": (4, rows_from(20230401, (20230525, 20230725, 20230703, 20230825))),
+        "paid-on-the-day": (3, rows_from(20230401, (20230525, 20230625, 20230705, 20230725))),
+        "payer-masked": (4, changed(pool, 2, mask=1 << X)),
+        "zero-amounts": (3, changed(pool, 2, interest_factor=0)),
+        "final": (4, changed(pool, 2, final=1)),
+        "interim-behind": (3, changed(pool, 3, beneficiary=20230715)),
+        "interim-behind-a-dropped-row": (4, changed(changed(pool, 1, payment=20230720), 3, beneficiary=20230715)),
+        "a-year-late": (3, nine),
+        "first-of-seven-paid": (4, changed(nine, 2, payment=20230901))}
+
+
+def long_delay():
+    """Rows that wait for their Payment Dates: all pools on one day, rooms, Contract Dates and no tag, the days around a Payment Date, and
+    more of them than a fail goes back."""
+    pools = late_pools()
+    run = Run("long-delay", 20230705, mk.tables_of({s: mk.security(kind, 1, rows) for s, (kind, rows) in enumerate(pools.values())}))
+
+    def fail(pool, more="", contract=20230315, room=ROOM):
+        run.transfer(pool + more, X, Y, list(pools).index(pool), 100_000, contract=contract, room=room)
+
+    for pool in pools:
+        fail(pool)
+    for pool in ("type-3", "interim-behind-a-dropped-row"):
+        fail(pool, "-one-byte-short", room=104)
+        fail(pool, "-exact-room", room=105)
+        fail(pool, "-no-tag", contract=None)
+    for contract in (20230531, 20230601, 20230701):
+        fail("type-3", "-contract-date-%d" % contract, contract=contract)
+    for day in (20230630, 20230703, 20230724, 20230725, 20230825):
+        run.open("opening-%d" % day, day)
+        for pool in ("type-3", "paid-behind", "interim-behind-a-dropped-row"):
+            fail(pool, "-%d" % day)
+    run.open("opening-20230905", 20230905)
+    for pool, room in (("a-year-late", 35), ("first-of-seven-paid", 70)):
+        fail(pool, "-20230905-one-byte-short", contract=20221231, room=room - 1)
+        fail(pool, "-20230905-exact-room", contract=20221231, room=room)
+        fail(pool, "-20230905-contract-date-on-the-first-of-seven", contract=20230301)
+
+
 def memo_lending():
     """Securities lending tracking, examples 1 to 3, each on what the last one left."""
     rows = cases.monthly(2024, (1, 2, 3))
@@ -184,5 +238,6 @@ mistakes()
 memo_fails()
 memo_interim()
 interim()
+long_delay()
 memo_lending()
 steps.write(sys.argv[2])

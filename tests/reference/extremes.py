@@ -146,8 +146,23 @@ def most_claims():
             transfer("%s-%d-bytes" % (name, room), room, 0, 15, 15, 100_000_000, contract=20240101)
 
 
+def all_waiting():
+    """Sixteen rows that wait for the calendar's last open day: a fail claims one of them. Then six rows of the seven are paid, and the first
+    or the last of the seven waits."""
+    rows = [ref.Row(20240101 + r, 20240201 + r, 20391230, FACTOR - r, r, 0, 0) for r in range(16)]
+    paid = [row._replace(payment=20240220) for row in rows]
+    steps.set_tables(mk.weekdays(), mk.tables_of({s: mk.security(3, 1, found) for s, found in (
+        (0, rows), (1, paid[:9] + rows[9:10] + paid[10:]), (2, paid[:15] + rows[15:]))}))
+    for name, security, day, claims in (("nine-interim-behind-one-of-seven", 0, 20240207, 10), ("one-of-sixteen", 0, 20240220, 1),
+                                        ("six-paid-behind-one", 1, 20240220, 7), ("one-behind-six-paid", 2, 20240220, 7)):
+        steps.set_book(day, 0, balances_of())
+        for room in (35 * claims - 1, 35 * claims):
+            transfer("%s-%d-bytes" % (name, room), room, 0, 15, security, 100_000_000, contract=20240101)
+
+
 largest_amounts()
 last_days()
 every_row()
 most_claims()
+all_waiting()
 steps.write(sys.argv[2])

@@ -4,10 +4,10 @@
 
 makes random calls by the reference's make_calls.py and writes COUNT of them to FOLDER/calls.in, with what they should give in
 FOLDER/calls.expected (the format is that of make_calls.py; crates/call_files/src/entries.rt reads it). It takes first the calls that show
-an answer, a claim type, an outcome, a slot or two claim types together that no call before them shows, then those that show an answer to
-another kind of call, a combination of claim type, outcome and slot, or a part of wrong length that none before them shows, then others in
-their order, those with claims first; none with a large claim buffer. It prints what the calls cover, and fails where an answer, a claim
-type, an outcome, a slot or two claim types together of the cards in force are missing.
+an answer, a claim type, an outcome, a slot, two claim types together or a case of waiting rows that no call before them shows, then those
+that show an answer to another kind of call, a combination of claim type, outcome and slot, or a part of wrong length that none before them
+shows, then others in their order, those with claims first; none with a large claim buffer. It prints what the calls cover, and fails where
+one of the things named first is missing that the cards in force bring.
 """
 import collections
 import os
@@ -38,7 +38,9 @@ def shown(call, result) -> set:
     claims = [(claim.claim_type, claim.outcome, claim.slot) for claim in ref.read_claims(result.buffer, result.claims)]
     facts = {("answer", CALLS[call["kind"]], result.number)} | wrong_lengths(call) | step_files.claim_facts(claims)
     if call["kind"] in TRANSFERS and result.number == 0:
-        facts.add(("code", ref.read_record(ref.TRANSFER, call["message"])[1].code))
+        transfer = ref.read_record(ref.TRANSFER, call["message"])[1]
+        facts.add(("code", transfer.code))
+        facts |= step_files.waiting_facts(cards, call["tables"], call["day"], transfer, call.get("limits"))
     if result.claims:
         facts.add(("buffer", CALLS[call["kind"]], min(2, len(result.buffer) - 35 * result.claims)))
     return facts

@@ -4,9 +4,9 @@
 
 makes random streams by the reference's make_vectors.py and writes COUNT of them to FOLDER/streams.in: for each the bytes of book.dat (none
 where it is missing), the input, and all that claimrun writes, each behind its length of four bytes. It takes first the streams that show
-an answer, a combination of claim type, outcome and slot, or two claim types together that no stream before them shows, then the smallest
-others. It prints what the streams cover, and fails where a claim type, an outcome, a slot, two claim types together or an answer that a
-stream can get are missing.
+an answer, a combination of claim type, outcome and slot, two claim types together or a case of waiting rows that no stream before them
+shows, then the smallest others. It prints what the streams cover, and fails where a claim type, an outcome, a slot, two claim types
+together, a case of waiting rows or an answer that a stream can get are missing.
 """
 import os
 import struct
@@ -17,6 +17,7 @@ import tempfile
 import step_files
 
 folder, seed, count, out = sys.argv[1], sys.argv[2], int(sys.argv[3]), sys.argv[4]
+ref, cards, claimrun = step_files.reference_modules(folder, "reference", "cards", "claimrun")
 # Answers that no stream gets: 11 needs 4,294,967,295 transfers before it, claimrun lends no limits (12) and ones as denominations (13, 14),
 # and 16 to 21 are those of calls that it does not make.
 NEVER = {11, 12, 13, 14, *range(16, 22)}
@@ -33,6 +34,13 @@ def content(*names) -> bytes:
         return file.read()
 
 
+def shown(book, data, expected) -> set:
+    """What a stream shows."""
+    direct = step_files.Direct(ref, cards)
+    assert claimrun.run_bytes(book, data, direct) == expected
+    return step_files.record_facts(expected) | direct.facts
+
+
 with tempfile.TemporaryDirectory() as made:
     subprocess.run([sys.executable, "-B", os.path.join(folder, "vectors", "make_vectors.py"), "--cards", str(step_files.CARDS), seed,
                     str(CANDIDATES), made], check=True, stdout=subprocess.DEVNULL)
@@ -41,18 +49,19 @@ seen, first, others = set(), [], []
 for i, stream in sorted(enumerate(streams), key=lambda entry: (sum(map(len, entry[1])), entry[0])):
     if sum(map(len, stream)) > LARGEST:
         continue
-    facts = step_files.record_facts(stream[2])
-    (others if facts <= seen else first).append((i, stream))
+    facts = shown(*stream)
+    (others if facts <= seen else first).append((i, stream, facts))
     seen |= facts
-picked = sorted((first + others)[:count])
-covered = set().union(*(step_files.record_facts(stream[2]) for _, stream in picked))
+picked = sorted((first + others)[:count], key=lambda entry: entry[0])
+covered = set().union(*(facts for _, _, facts in picked))
 os.makedirs(out, exist_ok=True)
 with open(os.path.join(out, "streams.in"), "wb") as file:
-    for _, stream in picked:
+    for _, stream, _ in picked:
         file.write(b"".join(struct.pack("<I", len(part)) + part for part in stream))
-print("%d streams, places %s" % (len(picked), " ".join(str(i) for i, _ in picked)))
-for name, title in (("answer", "answers"), ("claim", "claims (type, outcome, slot)"), ("together", "types of two claims of one call")):
-    print(title, *("/".join(map(str, numbers)) for numbers in sorted(fact[1:] for fact in covered if fact[0] == name)))
+print("%d streams, places %s" % (len(picked), " ".join(str(i) for i, _, _ in picked)))
+for name, title in (("answer", "answers"), ("claim", "claims (type, outcome, slot)"), ("together", "types of two claims of one call"),
+                    ("waiting", "rows that wait")):
+    print("%s:" % title, ", ".join("/".join(map(str, shown_by)) for shown_by in sorted(fact[1:] for fact in covered if fact[0] == name)))
 missing = sorted(step_files.wanted(NUMBERS) - step_files.parts_of(covered), key=str)
 if missing or len(picked) < count:
     sys.exit("missing: %s" % missing)

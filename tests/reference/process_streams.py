@@ -4,7 +4,7 @@
 
 writes FOLDER/NAME.stream for each stream: the bytes of book.dat, the input, all that claimrun writes, and the places where the input is
 cut into pieces (four bytes each), each of the four parts behind its length of four bytes. tests/claimrun/data holds the files, packed by
-gzip -9n. It fails where a claim type in force is missing.
+gzip -9n. It fails where a claim type in force is missing, a row that card 2 drops, or a paid row claimed behind one that waits.
 """
 import os
 import random
@@ -30,25 +30,6 @@ FAIL_CLAIMS = 6                 # the most claims of a failed transfer of type 1
 shown = set()                   # what the streams show
 
 
-class Direct:
-    """The reference's direct calls, each on the book and balances that the last one left."""
-
-    def open(self, calendar, tables, day):
-        result = rules.open(calendar, tables, day, [0] * rules.words)
-        self.book, self.balances = result.book, result.balances
-        return result.number
-
-    def transfer(self, calendar, tables, message, buffer):
-        return self.done(rules.transfer(calendar, tables, self.book, self.balances, message, buffer))
-
-    def close(self, calendar, tables, message, buffer):
-        return self.done(rules.close(calendar, tables, self.book, self.balances, message, buffer))
-
-    def done(self, result):
-        self.book, self.balances = result.book, result.balances
-        return result
-
-
 def places(pieces) -> list:
     """Where the pieces of an input end, the last one apart."""
     ends = [0]
@@ -57,10 +38,15 @@ def places(pieces) -> list:
     return ends[1:-1]
 
 
-def store(name, book, data, cuts, machine):
-    """Writes a stream, with what the reference answers to it."""
-    expected = claimrun.run_bytes(book, data, machine)
-    shown.update(step_files.parts_of(step_files.record_facts(expected)))
+def store(name, book, data, cuts, tallied=True):
+    """Writes a stream, with what the reference's direct calls answer to it, and its tally too unless the stream is long."""
+    direct = step_files.Direct(ref, cards)
+    expected = claimrun.run_bytes(book, data, direct)
+    if tallied:
+        both = cards.Both(step_files.CARDS)
+        assert claimrun.run_bytes(book, data, both) == expected, name
+        both.check_owed()
+    shown.update(step_files.parts_of(step_files.record_facts(expected) | direct.facts))
     parts = (book, data, expected, struct.pack("<%dI" % len(cuts), *cuts))
     with open(os.path.join(sys.argv[2], name + ".stream"), "wb") as file:
         file.write(b"".join(struct.pack("<I", len(part)) + part for part in parts))
@@ -87,9 +73,7 @@ def full_output():
 
     tables = mk.tables_of({s: mk.security(s % 4 + 1, 1, [row(s, r) for r in range(ROWS)]) for s in lent})
     pieces = [b"".join(loans(s, PAIRS) for s in lent), mk.close() * ROWS]
-    both = cards.Both(step_files.CARDS)
-    store("full-output", mk.book_bytes(CALENDAR, tables, days[0]), b"".join(pieces), places(pieces), both)
-    both.check_owed()
+    store("full-output", mk.book_bytes(CALENDAR, tables, days[0]), b"".join(pieces), places(pieces))
 
 
 def rows_behind(days, closes) -> list:
@@ -124,7 +108,7 @@ def fill_points(name, offsets):
         size = OUTPUT_BUFFER - RECORD_ROOM + offset - 2 * (ref.CLAIM_SIZE * MOST_CLAIMS + 6)
         pieces.append(mk.close() * 2 + fails_of_size(dice, rows, size) + mk.close() + fail(dice, rows, FAIL_CLAIMS) + mk.close())
         assert len(pieces[-1]) <= INPUT_BUFFER
-    store(name, mk.book_bytes(CALENDAR, tables, days[0]), b"".join(pieces), places(pieces), Direct())
+    store(name, mk.book_bytes(CALENDAR, tables, days[0]), b"".join(pieces), places(pieces), tallied=False)
 
 
 def some_transfer(dice, day: int, securities: int) -> bytes:
@@ -141,13 +125,14 @@ def some_transfer(dice, day: int, securities: int) -> bytes:
 
 
 def monthly_tables(dice, securities: int) -> list:
-    """Securities of all types with a row for each month from October 2023 on, its Beneficiary Date up to 12 days into the month."""
-    months = [20231001, 20231101, 20231201] + [20240001 + 100 * m for m in range(1, 13)]
+    """Securities of all types with a row for each month from October 2023 on: its Beneficiary Date is up to 12 days into the month, and its
+    Payment Date two weeks into the same month or one of the next three."""
+    months = [20231001, 20231101, 20231201] + [year + 100 * m for year in (20240001, 20250001) for m in range(1, 13)]
 
     def rows():
-        return [ref.Row(m + dice.randrange(3), m + dice.randrange(12), m + 14, dice.randrange(10_000_000),
+        return [ref.Row(m + dice.randrange(3), m + dice.randrange(12), months[i + dice.randrange(4)] + 14, dice.randrange(10_000_000),
                         dice.choice((0, dice.randrange(10 ** 9))), int(dice.random() < 0.1), dice.choice((0, 1 << dice.randrange(16))))
-                for m in months]
+                for i, m in enumerate(months[:15])]
 
     return mk.tables_of({s: mk.security(s % 4 + 1, s // 2 % 4 + 1, rows()) for s in range(securities)})
 
@@ -171,7 +156,7 @@ def buffer_ends():
             day += size == CLOSE_SIZE
         first = cut
     book = mk.book_bytes(CALENDAR, monthly_tables(dice, 8), days[0])
-    store("buffer-ends", book, b"".join(records), [], Direct())
+    store("buffer-ends", book, b"".join(records), [], tallied=False)
 
 
 def many_reads():
@@ -188,10 +173,8 @@ def many_reads():
             data += some_transfer(dice, days[day], 4)
         size = len(data) - start
         cuts |= {start + cut for cut in (dice.choice((1, 2, 3)), dice.randrange(size), size) if dice.random() < 0.75}
-    both = cards.Both(step_files.CARDS)
     book = mk.book_bytes(CALENDAR, monthly_tables(dice, 4), days[0])
-    store("many-reads", book, data, sorted(cuts - {0, len(data)}), both)
-    both.check_owed()
+    store("many-reads", book, data, sorted(cuts - {0, len(data)}))
 
 
 def closed_opening_day():
@@ -203,7 +186,7 @@ def closed_opening_day():
     other = claimrun.run_bytes(mk.book_bytes(calendar, tables, 20000101), data, cards.Both(step_files.CARDS))
     claims = 1 if rules.old(20000101) else 2        # the loan gives none on a day before there is lending
     assert len(other) == 4 * 6 + claims * ref.CLAIM_SIZE
-    store("closed-opening-day", mk.book_bytes(calendar, tables, 20230401), data, [], cards.Both(step_files.CARDS))
+    store("closed-opening-day", mk.book_bytes(calendar, tables, 20230401), data, [])
 
 
 full_output()
@@ -213,5 +196,6 @@ fill_points("fill-points-above", range(2, 7))
 buffer_ends()
 many_reads()
 closed_opening_day()
-missing = step_files.in_force(step_files.CLAIM_TYPES) - {n for name, n in shown if name == "type"}
-sys.exit("missing claim types: %s" % sorted(missing) if missing else 0)
+missing = {("type", n) for n in step_files.in_force(step_files.CLAIM_TYPES)} | {("waiting", "dropped"), ("waiting", "paid kept behind")}
+missing -= shown
+sys.exit("missing: %s" % sorted(missing) if missing else 0)

@@ -1,5 +1,5 @@
-"""The number of cards in force, what the stored data have to cover with it, and files of steps for the programs extremes and case_runs
-with what the reference answers to them.
+"""The number of cards in force, what the stored data have to cover with it, the reference's direct calls on a book, and files of steps for
+the programs extremes and case_runs with what the reference answers to them.
 
 The format of a file of steps stands in crates/call_files/src/steps.rt.
 """
@@ -8,15 +8,17 @@ import os
 import struct
 import sys
 
-CARDS = 1                       # how many of document 02's cards are in force
+CARDS = 2                       # how many of document 02's cards are in force
 OPEN, TRANSFER, CLOSE, TABLES, BOOK = range(5)
 MODULUS = 4294967291
 
-# The answers, the claim types and the types of two claims of one call, each with the card that brings it; 0 is document 01.
+# The answers, the claim types, the types of two claims of one call, and what a failed transfer shows of rows that wait, each with the card
+# that brings it; 0 is document 01. A row waits where its Payment Date is after the day S; C is the Contract Date.
 ANSWERS = {n: 0 for n in (*range(12), 132, 133, 135, 138, 139)} | {
     12: 5, 13: 6, 14: 6, 15: 7, 16: 9, 17: 9, 18: 10, 19: 10, 20: 14, 21: 14}
 CLAIM_TYPES = {1: 0, 2: 1, 3: 0, 4: 3}
 TOGETHER = {(1, 1): 0, (1, 2): 1, (2, 2): 1, (3, 3): 0, (3, 4): 3, (4, 4): 3}
+WAITING = {"dropped": 2, "paid kept behind": 2, "paid on S": 2, "another up to C": 2, "no room for an eighth": 2, "types 1 and 2 uncut": 2}
 OUTCOMES = SLOTS = range(4)
 
 
@@ -26,8 +28,9 @@ def in_force(table) -> set:
 
 
 def wanted(numbers) -> set:
-    """What stored data have to show: these answers, and the claim types, alone and together, outcomes and slots in force."""
-    parts = {"answer": numbers, "type": in_force(CLAIM_TYPES), "together": in_force(TOGETHER), "outcome": OUTCOMES, "slot": SLOTS}
+    """What stored data have to show: these answers, and the claim types, alone and together, outcomes, slots and waiting rows in force."""
+    parts = {"answer": numbers, "type": in_force(CLAIM_TYPES), "together": in_force(TOGETHER), "outcome": OUTCOMES, "slot": SLOTS,
+             "waiting": in_force(WAITING)}
     return {(name, n) for name, values in parts.items() for n in values}
 
 
@@ -39,7 +42,7 @@ def parts_of(facts) -> set:
             parts |= set(zip(("type", "outcome", "slot"), numbers))
         elif name == "together":
             parts.add((name, tuple(numbers)))
-        elif name == "answer":
+        elif name in ("answer", "waiting"):
             parts.add((name, numbers[-1]))
     return parts
 
@@ -65,6 +68,30 @@ def record_facts(output: bytes) -> set:
     return facts
 
 
+def waiting_facts(cards, tables, day: int, transfer, limits=None) -> set:
+    """What an accepted transfer shows of rows that wait; with card 1 alone none is dropped."""
+    rules, uncut = cards.Rules(CARDS), cards.Rules(1)
+    contract = rules.contract(transfer, day)
+    if transfer.code or contract is None or rules.old(day):
+        return set()
+
+    def rows(by, after, numbers=limits):
+        return [row for _, row in by.fail_rows(tables, transfer.security, day, after, numbers)]
+
+    claimed, recent, reached = rows(rules, contract), rows(uncut, 0), rows(uncut, 0, [16] * 5)
+    waiting = [row for row in claimed if row.payment > day]
+    dropped = [row for row in recent if contract < row.beneficiary and row not in claimed]
+    if tables[114 * transfer.security] not in cards.MBS:
+        shown = {"types 1 and 2 uncut": len(waiting) > 1}
+    else:
+        shown = {"dropped": dropped,
+                 "paid kept behind": waiting and any(row.payment <= day for row in claimed[claimed.index(waiting[0]):]),
+                 "paid on S": waiting and any(row.payment == day for row in claimed),
+                 "another up to C": waiting and any(row.payment > day for row in recent if row.beneficiary <= contract),
+                 "no room for an eighth": dropped and any(contract < row.beneficiary for row in reached[:-len(recent)])}
+    return {("waiting", name) for name, holds in shown.items() if holds}
+
+
 def reference_modules(folder, *names) -> list:
     """The modules of these names of a folder that holds the reference, and of its folder vectors."""
     sys.dont_write_bytecode = True
@@ -82,6 +109,31 @@ def checksum(numbers) -> int:
     for n in numbers:
         total = (total * 257 + n % MODULUS + 1) % MODULUS
     return total
+
+
+class Direct:
+    """The reference's direct calls, each on the book and balances that the last one left, and what they show of rows that wait."""
+
+    def __init__(self, ref, cards):
+        self.ref, self.cards, self.rules = ref, cards, cards.Rules(CARDS)
+        self.facts = set()
+
+    def open(self, calendar, tables, day):
+        return self.done(self.rules.open(calendar, tables, day, [0] * self.rules.words)).number
+
+    def transfer(self, calendar, tables, message, buffer):
+        day = self.book.day
+        result = self.done(self.rules.transfer(calendar, tables, self.book, self.balances, message, buffer))
+        if result.number == 0:
+            self.facts |= waiting_facts(self.cards, tables, day, self.ref.read_record(self.ref.TRANSFER, message)[1])
+        return result
+
+    def close(self, calendar, tables, message, buffer):
+        return self.done(self.rules.close(calendar, tables, self.book, self.balances, message, buffer))
+
+    def done(self, result):
+        self.book, self.balances = result.book, result.balances
+        return result
 
 
 class Steps:

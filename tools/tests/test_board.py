@@ -166,6 +166,16 @@ class Board(Pages):
         for words in ("Sat 1 Apr 2023, fail", "Mon 1 May 2023, interim"):
             self.assertIn(words, page.folded)
 
+    def test_a_later_payment_that_waits_is_not_claimed(self):
+        """On 2 May April's and May's payments wait: May's is claimed where April's is not after the Contract Date, or is paid."""
+        source = re.sub("settlement_day = .*", "settlement_day = 2023-05-02", BOOK + PAIR).replace("2023-04-15", "2023-05-16")
+        for was, becomes, april, may in (("2023-05-16", "2023-05-16", "claimed", "not claimed"),
+                                         ("2023-03-15", "2023-04-01", "not claimed", "claimed"),
+                                         ("2023-05-16", "2023-05-02", "claimed", "claimed")):
+            folded = self.parsed(source.replace(was, becomes)).folded
+            self.assertEqual(re.findall(r"Beneficiary Date \w+ 1 (\w+) 2023: (claimed|not claimed)", folded),
+                             [("Apr", april), ("May", may)] * 2)
+
     def test_dates_have_one_form(self):
         for source in (WORKSHOP, TWO_ROWS):
             page = self.parsed(source)

@@ -65,6 +65,15 @@ class Examples(common.Desk):
             ("Bank Z/1030", "Bank X/1010", "CUSIP B", "200.00", "2024-02-15"),
             ("Bank X/1010", "Bank Z/1030", "CUSIP B", "40.00", "2024-02-15")])
 
+    def test_long_delay(self):
+        """June and July wait on 21 July, July alone on the 25th; only the second transfer's Contract Date lies behind June."""
+        found = self.claims("long-delay.toml")[1]
+        self.assertEqual([[(claim["beneficiary_date"], claim["release_date"]) for claim in found if claim["transfer"] == number]
+                          for number in (1, 2, 3)], [
+            [("2023-04-01", "2023-07-24"), ("2023-05-01", "2023-07-24"), ("2023-06-01", "2023-07-25")],
+            [("2023-07-01", "2023-08-24")],
+            [("2023-04-01", "2023-07-26"), ("2023-05-01", "2023-07-26"), ("2023-06-01", "2023-07-26"), ("2023-07-01", "2023-08-24")]])
+
     def test_workshop(self):
         """Only the transfer settled on the Beneficiary Date owes money."""
         calls, found = self.claims("workshop.toml")

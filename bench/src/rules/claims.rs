@@ -73,14 +73,35 @@ fn most_rows(security: &Security) -> usize {
     }
 }
 
-/// The rows that a transfer of code 0 claims, which stand together, and where the interim ones begin.
+/// A bit for each row of a range.
+fn bits(rows: Range<usize>) -> u32 {
+    (1 << rows.end) - (1 << rows.start)
+}
+
+/// The places of the bits that are on, from the lowest.
+fn places(mut bits: u32) -> impl Iterator<Item = usize> {
+    std::iter::from_fn(move || {
+        let place = bits.trailing_zeros();
+        bits &= bits.wrapping_sub(1);
+        (place < u32::BITS).then_some(place as usize)
+    })
+}
+
+/// The rows of a range whose Payment Date is after the day, behind the first such row.
+fn later_waiting(rows: &[Row], range: Range<usize>, day: u32) -> u32 {
+    let waiting = range.filter(|&row| day < rows[row][2]).fold(0u32, |all, row| all | 1 << row);
+    waiting & waiting.wrapping_sub(1)
+}
+
+/// The rows that a transfer of code 0 claims, a bit for each, and where the interim ones begin.
 struct Claimed {
-    rows: Range<usize>,
+    rows: u32,
     interim: usize,
 }
 
 /// Record and Beneficiary Dates rise, so the rows with such a date up to the day stand first. Of those with the Beneficiary Date, a fail
-/// claims the most recent ones; interim are those with the Record Date alone.
+/// claims the most recent ones, and in an MBS only the first of these that waits for its Payment Date; interim are those with the Record
+/// Date alone.
 fn claimed(security: &Security, day: u32, contract: Option<u32>) -> Claimed {
     let rows = tables::rows(security);
     let up_to_day = |date: usize| rows.iter().take_while(|row| row[date] != 0 && row[date] <= day).count();
@@ -89,8 +110,12 @@ fn claimed(security: &Security, day: u32, contract: Option<u32>) -> Claimed {
         let recent = rows[..reached].iter().rev().take(most_rows(security));
         recent.take_while(|row| contract < row[1]).count()
     });
-    let end = if tables::is_mbs(security) { reached.max(up_to_day(0)) } else { reached };
-    Claimed { rows: reached - fails..end, interim: reached }
+    let fails = reached - fails..reached;
+    if !tables::is_mbs(security) {
+        return Claimed { rows: bits(fails), interim: reached };
+    }
+    let interim = reached..reached.max(up_to_day(0));
+    Claimed { rows: bits(fails.clone()) & !later_waiting(rows, fails, day) | bits(interim), interim: reached }
 }
 
 /// The fail and interim claims of a transfer of code 0, written from the buffer's start, or 10.
@@ -105,11 +130,11 @@ pub fn write_transfer(
 ) -> Result<usize, u16> {
     let security = &tables::securities(tables)[transfer.security as usize];
     let claimed = claimed(security, day, contract);
-    let count = claimed.rows.len();
+    let count = claimed.rows.count_ones() as usize;
     let room = buffer.get_mut(..CLAIM_BYTES * count).ok_or(10u16)?;
     let (records, _) = room.as_chunks_mut::<CLAIM_BYTES>();
-    let rows = tables::rows(security).iter().enumerate();
-    for (record, (row, words)) in records.iter_mut().zip(rows.skip(claimed.rows.start)) {
+    let rows = tables::rows(security);
+    for (record, row) in records.iter_mut().zip(places(claimed.rows)) {
         let due = Due {
             claim_type: if row < claimed.interim { FAIL } else { INTERIM },
             payer: transfer.sender,
@@ -117,7 +142,7 @@ pub fn write_transfer(
             security: transfer.security,
             kind: security[0],
             row: row as u8,
-            words,
+            words: &rows[row],
             transfer: number,
             par: transfer.par as u64,
         };
