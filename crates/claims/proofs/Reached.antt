@@ -1,6 +1,6 @@
 -- The rows that a transfer claims, by their numbers. In sound tables both dates rise, so the rows that the day has reached by either
--- date come first: the eligible rows are among the last that it has reached by Beneficiary Date, and the interim rows are those behind
--- these that it has reached by Record Date.
+-- date come first: the eligible rows are among the last that it has reached by Beneficiary Date, the cut of these goes by the number of one
+-- row, and the interim rows are those behind these that it has reached by Record Date.
 use mathlib.Core.Path.{_≡_, refl, sym, ap, ap₂, _∙_}
 use mathlib.Core.Bool.{Bool, true, false, cond, not, _&&_, and-true, and-false}
 use mathlib.Core.List.{List, [], _∷_, _++_, map, map-append, map-map}
@@ -249,7 +249,7 @@ module _ (calendar tables : List ℕ) (day number : ℕ) (t : Transfer) where
 
 -- ---- the cut by row numbers
 
--- all rows have numbers below n, which stands for none of them
+-- where all rows have numbers below n, which stands for none of them
 cut-by-number : (type contract day n : ℕ) (rows : List Row) → rising (λ row. row .index) rows ≡ true → all (λ row. ltb (row .index) n) rows ≡ true
     → cut type day (select (λ row. ltb contract (row .beneficiaryDate)) rows)
     ≡ select (isKeptBy contract (cond (isMbs type) (firstKey (λ row. row .index) n (isWaiting contract day) rows) n) day) rows
@@ -339,8 +339,8 @@ module _ (calendar tables : List ℕ) (day : ℕ) (t : Transfer) where
     -- the eligible rows are those of the last ones that the number of the first that waits leaves
     pub eligible-window : (tag : Tag)
         → let first = reachedNow - maximumOf tables (t .security) in
-        eligible tables day t tag
-        ≡ select (isKeptBy (contractDate tag) (waitingRow tables (t .security) (contractDate tag) day first) day) (take (reachedNow - first) (drop first rows))
+        let waiting = waitingRow tables (t .security) (contractDate tag) day first in
+        eligible tables day t tag ≡ select (isKeptBy (contractDate tag) waiting day) (take (reachedNow - first) (drop first rows))
     unfolding eligible eligibleIn waitingRow waitingFrom
     eligible-window tag =
         let type = typeOf (securityOf tables (t .security)) in

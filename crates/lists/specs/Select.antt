@@ -198,7 +198,8 @@ module _ {A : Type 0} where
       go false h = h
 
   -- the first key of those that pass another test
-  pub first-key-select : (key : A → ℕ) (n : ℕ) (p q : A → Bool) (xs : List A) → firstKey key n p (select q xs) ≡ firstKey key n (λ x. q x && p x) xs
+  pub first-key-select : (key : A → ℕ) (n : ℕ) (p q : A → Bool) (xs : List A)
+      → firstKey key n p (select q xs) ≡ firstKey key n (λ x. q x && p x) xs
   unfolding select firstKey
   first-key-select key n p q [] = refl
   first-key-select key n p q (x ∷ xs) = go (q x) (first-key-select key n p q xs)
