@@ -16,23 +16,23 @@ use Rattle.claims.proofs.Rows.{tagLine, blank, sentIn, sent, TransferRo
 -- ---- tables
 
 -- a row by its three dates and its mask
-unfoldable pub dated : ℕ → ℕ → ℕ → ℕ → List ℕ
+abbrev dated : ℕ → ℕ → ℕ → ℕ → List ℕ
 dated recordDate beneficiaryDate paymentDate mask = recordDate ∷ beneficiaryDate ∷ paymentDate ∷ 5000000 ∷ 0 ∷ 0 ∷ mask ∷ []
 
 -- a monthly security of a type, by the words of its rows
-unfoldable pub monthly : ℕ → List ℕ → List ℕ
+abbrev monthly : ℕ → List ℕ → List ℕ
 monthly type words = (type ∷ 1 ∷ words) ++ replicate (112 - length words) 0
 
 -- rows of 1 April, 1 May and 1 June that are paid on the dates given, the third masked
-unfoldable pub spring : ℕ → ℕ → ℕ → ℕ → List ℕ
+abbrev spring : ℕ → ℕ → ℕ → ℕ → List ℕ
 spring april may june mask = dated 20230401 20230401 april 0 ++ (dated 20230501 20230501 may 0 ++ dated 20230601 20230601 june mask)
 
 -- and one of 1 July
-unfoldable pub july : List ℕ
+abbrev july : List ℕ
 july = dated 20230701 20230701 20230825 0
 
 -- rows of the first of January to September 2023 that are paid a year later, but for the third
-unfoldable pub year : ℕ → List ℕ
+abbrev year : ℕ → List ℕ
 year march = each 9 (λ m. dated (20230101 + 100 * m) (20230101 + 100 * m) (cond (eqb m 2) march (20240101 + 100 * m)) 0)
 
 -- securities 0 to 9: MBS; MBS whose third row is paid before its second; MBS whose second row is paid on 5 July; debt; MBS guaranteed by
@@ -95,5 +95,5 @@ transfers =
 delay-rows-hold :
     all (λ r. sameBytes (claimed (transferClaims weekdays (r .tables) (r .day) 9 (transferOf (r .message)) (messageTag (r .message)))) (r .claims)) transfers
     ≡ true
-unfolding openedClaims tagLine blank sentIn sent sameBytes claimed dated monthly spring july year delays failed claim paid transfers
+unfolding openedClaims tagLine blank sentIn sent sameBytes claimed delays failed claim paid transfers
 delay-rows-hold = refl

@@ -11,8 +11,7 @@ use lib.Dec.{eqb, leb}
 use lib.ListN.{length, length-map}
 use borrow.Author.Tests.{ltb-true, leb-true, lt-ltb, le-leb}
 use Rattle.lists.specs.Tests.{and-left, and-right}
-use Rattle.lists.specs.All.{all-each}
-use Rattle.lists.specs.Select.{select, rising, select-none, select-halves, rising-select}
+use Rattle.lists.specs.Select.{select, rising, select-never, select-halves, rising-select}
 use Rattle.records.specs.declared.Transfer.{Transfer}
 use Rattle.securities.specs.Securities.{securityOf, typeOf, Row, rowsOf, isFilled, filledRows, goodRow}
 use Rattle.securities.proofs.Sound.{good-row}
@@ -28,7 +27,7 @@ use Rattle.claims.proofs.Eligible.{beneficiary, isKept, eligible-words,
 
 select-under : {A : Type 0} (b : Bool) (p : A → Bool) (xs : List A) → cond b (select p xs) [] ≡ select (λ x. b && p x) xs
 select-under true p xs = refl
-select-under false p xs = sym (select-none (λ x. false) (λ x. true) xs (all-each _ xs (λ x. refl)) (λ x e. refl))
+select-under false p xs = sym (select-never (λ x. false) xs (λ x. refl))
 
 -- ---- interim rows
 

@@ -11,8 +11,8 @@ use lib.ListN.{length}
 use lib.Dec.{ltb, leb}
 use borrow.Author.Tests.{ltb-true, ltb-false, leb-true, leb-false, lt-ltb, le-ltb, le-leb, lt-leb}
 use Rattle.lists.specs.Tests.{and-left, and-right, and-both}
-use Rattle.lists.specs.All.{all, all-each}
-use Rattle.lists.specs.Select.{select, lastOf, keepFirst, rising, select-agree, select-both, last-none, last-front, rising-select, one-kept, keep-first-words}
+use Rattle.lists.specs.All.{all}
+use Rattle.lists.specs.Select.{select, lastOf, keepFirst, rising, select-agree, select-same, select-both, last-none, last-front, rising-select, one-kept, keep-first-words}
 use Rattle.securities.specs.Securities.{Row}
 use Rattle.claims.specs.Fails.{isMbs, eligibleIn, waits, cut}
 
@@ -140,7 +140,7 @@ cut-is type n contract day rows e = rw (eligible-is n contract day rows e) (go (
     go true =
         keep-first-words beneficiary (waits day) held (rising-select beneficiary _ rows e)
         ∙ select-both _ (isEligible n contract day rows) rows
-        ∙ select-agree _ _ (λ row. true) rows (all-each _ rows (λ row. refl)) (λ row h.
+        ∙ select-same _ _ rows (λ row.
         ap (λ (l : List Row). not (waits day row && ltb 0 (length l)) && isEligible n contract day rows row)
         (select-both _ (isEligible n contract day rows) rows))
     go false = refl

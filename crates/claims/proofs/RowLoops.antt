@@ -108,12 +108,15 @@ module _ (tables : List ℕ) (s contract day : ℕ) where
         let small : i < 16 = omega (arith, k .few) in
         rw (n, drop-cons rows i here (omega (arith, length-rows-of tables s)), rows-of-at tables s i here small, row-number tables s i, add-one)
 
-    by-words : isWaiting contract day (rowAt tables s i)
-        ≡ (ltb contract (getD tables (114 * s + 2 + 7 * i + 1) 0) && ltb day (getD tables (114 * s + 2 + 7 * i + 2) 0))
+    -- by the words of its Beneficiary Date and its Payment Date
+    abbrev waitsHere : Bool
+    waitsHere = ltb contract (getD tables (114 * s + 2 + 7 * i + 1) 0) && ltb day (getD tables (114 * s + 2 + 7 * i + 2) 0)
+
+    by-words : isWaiting contract day (rowAt tables s i) ≡ waitsHere
     unfolding isWaiting waits dateAt
     by-words = rw (date-word tables s i 1 (omega arith), payment-word tables s i)
 
-    module _ {b : Bool} (e : b ≡ (ltb contract (getD tables (114 * s + 2 + 7 * i + 1) 0) && ltb day (getD tables (114 * s + 2 + 7 * i + 2) 0))) where
+    module _ {b : Bool} (e : b ≡ waitsHere) where
       pub seek-found : b ≡ true → i ≡ waitingFrom tables s contract day end first
       seek-found q = sym (k .rest ∙ waiting-here ∙ rw (by-words, ← e, q))
 

@@ -38,8 +38,8 @@ maximumOf tables s =
     let words = securityOf tables s in
     maximumFor maximumNumbers (typeOf words) (frequencyOf words)
 
--- Of the rows with Beneficiary Date on or before the day, the most recent up to a maximum number; of these, each with a Beneficiary
--- Date after the Contract Date, in table order.
+-- Document 01's eligible rows, before the cut: of the rows with Beneficiary Date on or before the day, the most recent up to a maximum
+-- number; of these, each with a Beneficiary Date after the Contract Date, in table order.
 unfoldable pub eligibleIn : ℕ → ℕ → ℕ → List Row → List Row
 eligibleIn maximum contract day rows =
     select (λ row. ltb contract (row .beneficiaryDate)) (lastOf maximum (select (λ row. leb (row .beneficiaryDate) day) rows))
@@ -48,7 +48,7 @@ eligibleIn maximum contract day rows =
 unfoldable pub waits : ℕ → Row → Bool
 waits day row = ltb day (row .paymentDate)
 
--- Of the rows of a security of type 3 or 4 the first that waits is kept, and later ones that wait are dropped.
+-- Card 2's cut: of the rows of a security of type 3 or 4 the first that waits is kept, and later ones that wait are dropped.
 unfoldable pub cut : ℕ → ℕ → List Row → List Row
 cut type day rows = cond (isMbs type) (keepFirst (waits day) rows) rows
 

@@ -85,27 +85,25 @@ module _ (calendar tables : List ℕ) (day number : ℕ) (t : Transfer) (sound :
         go true = omega arith
         go false = omega arith
 
-    abbrev kept : Row → Bool
-    kept = isKeptBy (contractDate tag) (waitingRow tables (t .security) (contractDate tag) day first) day
+    -- the rows from a first one on that the Contract Date and the cut leave
+    abbrev keptFrom : ℕ → Row → Bool
+    keptFrom n = isKeptBy (contractDate tag) (waitingRow tables (t .security) (contractDate tag) day n) day
 
     -- without a tag the rows up to the reached ones are none
     fail-window : cond (tagged tag) (map (claim failType) (eligible tables day t tag)) []
-        ≡ map (claim failType) (select kept (take (reached - first) (drop first rows)))
+        ≡ map (claim failType) (select (keptFrom first) (take (reached - first) (drop first rows)))
     unfolding firstRow select
     fail-window = go (tagged tag)
       where
         start : Bool → ℕ
         start b = cond b (reached - maximumOf tables (t .security)) reached
 
-        by : ℕ → Row → Bool
-        by n = isKeptBy (contractDate tag) (waitingRow tables (t .security) (contractDate tag) day n) day
-
         go : (b : Bool) → cond b (map (claim failType) (eligible tables day t tag)) []
-            ≡ map (claim failType) (select (by (start b)) (take (reached - start b) (drop (start b) rows)))
+            ≡ map (claim failType) (select (keptFrom (start b)) (take (reached - start b) (drop (start b) rows)))
         go true = ap (map (claim failType)) (eligible-window calendar tables day t sound held tag)
         go false =
             let z : 0 ≡ reached - reached = omega arith in
-            ap (λ (n : ℕ). map (claim failType) (select (by reached) (take n (drop reached rows)))) z
+            ap (λ (n : ℕ). map (claim failType) (select (keptFrom reached) (take n (drop reached rows)))) z
 
     code-zero : t .code ≡ 0 → Recently calendar tables day number t tag (recentRows tables day t tag)
     unfolding recentRows

@@ -12,7 +12,7 @@ use Rattle.days.specs.Weekdays.{weekdays}
 use Rattle.securities.specs.Cases.{caseTables}
 use Rattle.claims.specs.Amounts.{ofInterest, Parties}
 use Rattle.claims.proofs.InterimRows.{threeRows}
-use Rattle.claims.proofs.DelayRows.{dated, monthly, spring, july, year, delays}
+use Rattle.claims.proofs.DelayRows.{delays}
 use Rattle.book.specs.declared.Book.{Book}
 use Rattle.history.specs.Calls.{Call, transfer, close}
 use Rattle.history.specs.Causes.{numberFor}
@@ -353,7 +353,7 @@ unfolding openedHistory tag line tagLine blank twoTags openTag badTag sent closi
 openedRows = 0
 
 rows-hold : openings && all (λ r. eqb (numberFor (r .calendar) (r .tables) (r .book) (r .balances) (r .call)) (r .number)) rows ≡ true
-unfolding openedRows held near lastTables lateTables threeRows dated monthly spring july year delays rows opening openings
+unfolding openedRows held near lastTables lateTables threeRows delays rows opening openings
 rows-hold = refl
 
 history-holds : history ≡ true
@@ -365,7 +365,7 @@ unfolding openedRows threeRows interimCalls entries counted senderToReceiver sam
 interim-holds = refl
 
 delay-holds : delayHistory ≡ true
-unfolding openedRows dated monthly spring july year delays delayCalls entries counted senderToReceiver sameNumbers delayHistory
+unfolding openedRows delays delayCalls entries counted senderToReceiver sameNumbers delayHistory
 delay-holds = refl
 
 periods-hold : periods ≡ true

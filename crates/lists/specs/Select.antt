@@ -60,6 +60,13 @@ module _ {A : Type 0} where
   select-none f q (x ∷ xs) t h =
       rw (h x (and-left (q x) (all q xs) t)) (select-none f q xs (and-right (q x) (all q xs) t) h)
 
+  -- tests that say the same of every element, and one that none passes
+  pub select-same : (f g : A → Bool) (xs : List A) → ((x : A) → f x ≡ g x) → select f xs ≡ select g xs
+  select-same f g xs h = select-agree f g (λ x. true) xs (all-each _ xs (λ x. refl)) (λ x e. h x)
+
+  pub select-never : (f : A → Bool) (xs : List A) → ((x : A) → f x ≡ false) → select f xs ≡ []
+  select-never f xs h = select-none f (λ x. true) xs (all-each _ xs (λ x. refl)) (λ x e. h x)
+
   -- two tests one after the other are one
   pub select-both : (f g : A → Bool) (xs : List A) → select f (select g xs) ≡ select (λ x. f x && g x) xs
   unfolding select
@@ -189,7 +196,7 @@ module _ {A : Type 0} where
       never false = refl
 
       none : select p (select (λ y. not (p y)) xs) ≡ []
-      none = select-both p _ xs ∙ select-none _ (λ y. true) xs (all-each _ xs (λ y. refl)) (λ y h. never (p y))
+      none = select-both p _ xs ∙ select-never _ xs (λ y. never (p y))
 
       go : (b : Bool) → length (select p (keepFirst p xs)) ≤ 1
           → let rest = cond b (select (λ y. not (p y)) xs) (keepFirst p xs) in
