@@ -8,7 +8,7 @@ ghost use lib.ListN.{length};
 ghost use Rattle.lists.specs.Put.{put};
 ghost use Rattle.days.specs.Days.{dayNumber};
 ghost use Rattle.securities.specs.Securities.{rowOf};
-ghost use Rattle.claims.specs.Amounts.{interimType, lendingType, centsOn, outcomeOf, releaseOf, isEarly, slotOf, claimOn};
+ghost use Rattle.claims.specs.Amounts.{interimType, centsOn, isTracked, outcomeOf, releaseOf, isEarly, slotOf, claimOn};
 ghost use Rattle.claims.specs.Claimable.{Claimable};
 ghost use Rattle.claims.specs.Written.{claimBytes};
 use days::Day;
@@ -24,6 +24,9 @@ pub const INTERIM: u8 = 2;
 
 // The type of a lending claim.
 pub const LENDING: u8 = 3;
+
+// The type of a repo claim.
+pub const REPO: u8 = 4;
 
 // The outcome of a claim that settles.
 const SETTLE: u8 = 0;
@@ -56,14 +59,24 @@ fn is_nothing(interest: Cents, principal: Cents) -> bool
     principal.0 == 0
 }
 
-// Whether a claim is a lending claim on a payment that redeems the security.
-fn is_redeemed(claim_type: u8, last: u32) -> bool
-    ensures { λ r. ⌜ r ≡ (eqb «claim_type» lendingType && eqb last 1) ⌝ }
+// Whether a claim is one on par on loan or on repo.
+fn is_tracked(claim_type: u8) -> bool
+    ensures { λ r. ⌜ r ≡ isTracked «claim_type» ⌝ }
 {
-    if claim_type != LENDING {
-        return false;
+    if claim_type == LENDING {
+        return true;
     }
-    last == 1
+    claim_type == REPO
+}
+
+// Whether a claim is a lending or repo claim on a payment that redeems the security.
+fn is_redeemed(claim_type: u8, last: u32) -> bool
+    ensures { λ r. ⌜ r ≡ (isTracked «claim_type» && eqb last 1) ⌝ }
+{
+    if is_tracked(claim_type) {
+        return last == 1;
+    }
+    false
 }
 
 // The outcome, the first that applies.

@@ -42,9 +42,9 @@ module _ (calendar tables balances : List ℕ) where
   unfolding tableCauses wrongLength
   wrong-tables h = hit 1 _ (search (or-left, or-right, wrong (length tables) 1824 h) depth 4)
 
-  pub wrong-balances : (length balances ≡ 4096 → ⊥) → 1 ≡ firstOf (tableCauses calendar tables balances)
+  pub wrong-balances : (length balances ≡ 8192 → ⊥) → 1 ≡ firstOf (tableCauses calendar tables balances)
   unfolding tableCauses wrongLength
-  wrong-balances h = hit 1 _ (search (or-left, or-right, wrong (length balances) 4096 h) depth 4)
+  wrong-balances h = hit 1 _ (search (or-left, or-right, wrong (length balances) 8192 h) depth 4)
 
   pub numbered-tables : numbered (tableCauses calendar tables balances) ≡ true
   unfolding tableCauses numbered
@@ -55,21 +55,21 @@ module _ (calendar tables balances : List ℕ) where
   unfolding tableCauses wrongLength appliesAt
   calendar-length e =
       eqb-true (length calendar) 480
-      (not-false _ (or-false-left _ _ (or-false-left _ (not (eqb (length balances) 4096)) (cleared 1 (tableCauses calendar tables balances) numbered-tables e))))
+      (not-false _ (or-false-left _ _ (or-false-left _ (not (eqb (length balances) 8192)) (cleared 1 (tableCauses calendar tables balances) numbered-tables e))))
 
   -- and of the balances'
-  pub balance-length : firstOf (tableCauses calendar tables balances) ≡ 0 → length balances ≡ 4096
+  pub balance-length : firstOf (tableCauses calendar tables balances) ≡ 0 → length balances ≡ 8192
   unfolding tableCauses wrongLength appliesAt
   balance-length e =
-      eqb-true (length balances) 4096
+      eqb-true (length balances) 8192
       (not-false _
       (or-false-right (not (eqb (length calendar) 480) || not (eqb (length tables) 1824)) _
       (cleared 1 (tableCauses calendar tables balances) numbered-tables e)))
 
-  module _ (a : length calendar ≡ 480) (b : length tables ≡ 1824) (c : length balances ≡ 4096) where
+  module _ (a : length calendar ≡ 480) (b : length tables ≡ 1824) (c : length balances ≡ 8192) where
     right-lengths : wrongLength calendar tables balances ≡ false
     unfolding wrongLength
-    right-lengths = rw (eq-eqb (length calendar) 480 a, eq-eqb (length tables) 1824 b, eq-eqb (length balances) 4096 c)
+    right-lengths = rw (eq-eqb (length calendar) 480 a, eq-eqb (length tables) 1824 b, eq-eqb (length balances) 8192 c)
 
     pub bad-calendar-number : badCalendar calendar ≡ true → 2 ≡ firstOf (tableCauses calendar tables balances)
     unfolding tableCauses

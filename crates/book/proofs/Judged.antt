@@ -22,7 +22,7 @@ use Rattle.book.proofs.Words.{position-word, word-bound}
 pub record SoundTables (calendar tables balances : List ℕ) : Type 0 where
   pub calendar-words : length calendar ≡ 480
   pub table-words : length tables ≡ 1824
-  pub balance-words : length balances ≡ 4096
+  pub balance-words : length balances ≡ 8192
   pub calendar-rule : badCalendar calendar ≡ false
   pub table-rules : goodTables calendar tables ≡ true
 
@@ -34,13 +34,13 @@ length-is : (n k : ℕ) → not (eqb n k) ≡ false → n ≡ k
 length-is n k e = eqb-true n k (not-false (eqb n k) e)
 
 lengths : (calendar tables balances : List ℕ) → wrongLength calendar tables balances ≡ false
-    → (length calendar ≡ 480) × (length tables ≡ 1824) × (length balances ≡ 4096)
+    → (length calendar ≡ 480) × (length tables ≡ 1824) × (length balances ≡ 8192)
 unfolding wrongLength
 lengths calendar tables balances e =
-    let ab = or-false-left (not (eqb (length calendar) 480) || not (eqb (length tables) 1824)) (not (eqb (length balances) 4096)) e in (
+    let ab = or-false-left (not (eqb (length calendar) 480) || not (eqb (length tables) 1824)) (not (eqb (length balances) 8192)) e in (
       length-is (length calendar) 480 (or-false-left _ _ ab),
       length-is (length tables) 1824 (or-false-right (not (eqb (length calendar) 480)) _ ab),
-      length-is (length balances) 4096 (or-false-right (not (eqb (length calendar) 480) || not (eqb (length tables) 1824)) _ e),
+      length-is (length balances) 8192 (or-false-right (not (eqb (length calendar) 480) || not (eqb (length tables) 1824)) _ e),
     )
 
 sound-tables : (calendar tables balances : List ℕ) → wrongLength calendar tables balances ≡ false → badCalendar calendar ≡ false
@@ -83,7 +83,7 @@ pub record SoundBalances (balances : List ℕ) : Type 0 where
   pub small : (p : Position) → InRange p → balanceAt balances p ≤ 9000000000
   pub diagonal : (p : Position) → InRange p → p .lender ≡ p .borrower → balanceAt balances p ≡ 0
 
-pub sound-balances : (balances : List ℕ) → length balances ≡ 4096 → badBalances balances ≡ false → SoundBalances balances
+pub sound-balances : (balances : List ℕ) → length balances ≡ 8192 → badBalances balances ≡ false → SoundBalances balances
 unfolding badBalances balanceAt goodBalance
 sound-balances balances n e =
     let g = not-false (goodBalancesFrom 0 balances) e in

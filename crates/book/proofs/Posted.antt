@@ -1,10 +1,11 @@
 -- Posting an accepted transfer keeps the balances sound; before it, the laws of the code that gives the numbers 7 and 8, posts and clears.
 use mathlib.Core.Path.{_≡_, refl, sym, ap, _∙_, subst}
-use mathlib.Core.Bool.{Bool, true, false, not}
+use mathlib.Core.Bool.{Bool, true, false, cond, not}
 use mathlib.Core.List.{List, [], _∷_, _++_, append-nil}
 use Prim.Native.Nat.{ℕ, zero, suc, _+_, _-_, _≤_, _<_}
 use native.Mathlib.Nat.{add-zero, zero-add, add-suc, suc-add}
 use native.Mathlib.Omega.{arith}
+use lib.Dec.{ltb}
 use lib.ListN.{length, getD, set, drop, replicate, length-set, drop-of-length-le}
 use borrow.Author.Fill.{fill-none, fill-more}
 use borrow.Author.Tests.{lt-ltb, le-ltb, ltb-false, le-leb, ne-eqb, not-false}
@@ -12,30 +13,39 @@ use Rattle.lists.specs.Tests.{and-left, and-right, and-both, cond-true}
 use Rattle.lists.specs.First.{firstOf, numbered, appliesAt, cleared, hit, skip, none}
 use Rattle.records.specs.declared.Transfer.{Transfer}
 use Rattle.book.specs.Book.{Position, InRange, word, position, balanceAt}
-use Rattle.book.specs.Loans.{increasing, decreasing, bySender, byReceiver, Change, unchanged, increase, decrease, changeOf, changed, aboveBalance, pastLimit, loanCauses}
+use Rattle.book.specs.Loans.{trackingOf, stepOf, increasing, decreasing, bySender, byReceiver, Change, unchanged, increase, decrease, changeOf, changed, aboveBalance, pastLimit, loanCauses}
 use Rattle.book.specs.Soundness.{goodBalance, goodBalancesFrom, badBalances}
 use Rattle.book.proofs.Words.{position-word}
 use Rattle.book.proofs.Judged.{sound-balances}
 
 -- ---- the change that a code asks for
 
+-- lending or repo
+pub tracking-range : (code : ℕ) → trackingOf code < 2
+unfolding trackingOf
+tracking-range code = go (ltb 6 code)
+  where
+    go : (b : Bool) → cond b 1 0 < 2
+    go true = omega arith
+    go false = omega arith
+
 module _ (t : Transfer) where
-  change-increase : increasing (t .code) ≡ true → changeOf t ≡ increase (bySender t)
+  change-increase : increasing (stepOf (t .code)) ≡ true → changeOf t ≡ increase (bySender t)
   unfolding changeOf
   change-increase e = cond-true _ _ e
 
-  change-decrease : increasing (t .code) ≡ false → decreasing (t .code) ≡ true → changeOf t ≡ decrease (byReceiver t)
+  change-decrease : increasing (stepOf (t .code)) ≡ false → decreasing (stepOf (t .code)) ≡ true → changeOf t ≡ decrease (byReceiver t)
   unfolding changeOf
   change-decrease e f = rw (e, f)
 
-  change-none : increasing (t .code) ≡ false → decreasing (t .code) ≡ false → changeOf t ≡ unchanged
+  change-none : increasing (stepOf (t .code)) ≡ false → decreasing (stepOf (t .code)) ≡ false → changeOf t ≡ unchanged
   unfolding changeOf
   change-none e f = rw (e, f)
 
 -- ---- numbers 7 and 8
 
 module _ (balances : List ℕ) (t : Transfer) (w : ℕ) where
-  module _ (e : increasing (t .code) ≡ true) (k : w ≡ word (bySender t)) where
+  module _ (e : increasing (stepOf (t .code)) ≡ true) (k : w ≡ word (bySender t)) where
     not-above : aboveBalance balances (changeOf t) (t .par) ≡ false
     unfolding aboveBalance
     not-above = rw (change-increase t e)
@@ -52,7 +62,7 @@ module _ (balances : List ℕ) (t : Transfer) (w : ℕ) where
         skip 7 _ not-above
         (skip 8 _ (rw (change-increase t e, ← k) (le-ltb 9000000000 (getD balances w 0 + t .par) (omega arith))) none)
 
-  module _ (e : increasing (t .code) ≡ false) (f : decreasing (t .code) ≡ true) (k : w ≡ word (byReceiver t)) where
+  module _ (e : increasing (stepOf (t .code)) ≡ false) (f : decreasing (stepOf (t .code)) ≡ true) (k : w ≡ word (byReceiver t)) where
     not-past : pastLimit balances (changeOf t) (t .par) ≡ false
     unfolding pastLimit
     not-past = rw (change-decrease t e f)
@@ -66,7 +76,7 @@ module _ (balances : List ℕ) (t : Transfer) (w : ℕ) where
     decrease-within h =
         skip 7 _ (rw (change-decrease t e f, ← k) (le-ltb (getD balances w 0) (t .par) h)) (skip 8 _ not-past none)
 
-pub unchanged-accepted : (balances : List ℕ) (t : Transfer) → increasing (t .code) ≡ false → decreasing (t .code) ≡ false
+pub unchanged-accepted : (balances : List ℕ) (t : Transfer) → increasing (stepOf (t .code)) ≡ false → decreasing (stepOf (t .code)) ≡ false
     → _≡_ {A = ℕ} 0 (firstOf (loanCauses balances t))
 unfolding loanCauses aboveBalance pastLimit
 unchanged-accepted balances t e f = rw (change-none t e f) (skip 7 _ refl (skip 8 _ refl none))
@@ -74,40 +84,40 @@ unchanged-accepted balances t e f = rw (change-none t e f) (skip 7 _ refl (skip 
 -- ---- an accepted transfer
 
 module _ (balances : List ℕ) (t : Transfer) (n : firstOf (loanCauses balances t) ≡ 0) where
-  increase-room : increasing (t .code) ≡ true → balanceAt balances (bySender t) + t .par ≤ 9000000000
+  increase-room : increasing (stepOf (t .code)) ≡ true → balanceAt balances (bySender t) + t .par ≤ 9000000000
   unfolding loanCauses numbered appliesAt pastLimit
   increase-room e =
       ltb-false 9000000000 (balanceAt balances (bySender t) + t .par)
       (subst (λ (c : Change). pastLimit balances c (t .par) ≡ false) (change-increase t e) (cleared 8 (loanCauses balances t) refl n))
 
-  decrease-room : increasing (t .code) ≡ false → decreasing (t .code) ≡ true → t .par ≤ balanceAt balances (byReceiver t)
+  decrease-room : increasing (stepOf (t .code)) ≡ false → decreasing (stepOf (t .code)) ≡ true → t .par ≤ balanceAt balances (byReceiver t)
   unfolding loanCauses numbered appliesAt aboveBalance
   decrease-room e f =
       ltb-false (balanceAt balances (byReceiver t)) (t .par)
       (subst (λ (c : Change). aboveBalance balances c (t .par) ≡ false) (change-decrease t e f) (cleared 7 (loanCauses balances t) refl n))
 
-  pub increase-fits : (w : ℕ) → increasing (t .code) ≡ true → w ≡ word (bySender t) → getD balances w 0 + t .par ≤ 9000000000
+  pub increase-fits : (w : ℕ) → increasing (stepOf (t .code)) ≡ true → w ≡ word (bySender t) → getD balances w 0 + t .par ≤ 9000000000
   unfolding balanceAt
   increase-fits w e k = rw k (increase-room e)
 
-  pub decrease-fits : (w : ℕ) → increasing (t .code) ≡ false → decreasing (t .code) ≡ true → w ≡ word (byReceiver t) → t .par ≤ getD balances w 0
+  pub decrease-fits : (w : ℕ) → increasing (stepOf (t .code)) ≡ false → decreasing (stepOf (t .code)) ≡ true → w ≡ word (byReceiver t) → t .par ≤ getD balances w 0
   unfolding balanceAt
   decrease-fits w e f k = rw k (decrease-room e f)
 
 -- ---- the balances after it
 
 module _ (balances : List ℕ) (t : Transfer) where
-  pub posted-increase : (w : ℕ) → increasing (t .code) ≡ true → w ≡ word (bySender t)
+  pub posted-increase : (w : ℕ) → increasing (stepOf (t .code)) ≡ true → w ≡ word (bySender t)
       → set balances w (getD balances w 0 + t .par) ≡ changed balances (changeOf t) (t .par)
   unfolding changed balanceAt
   posted-increase w e k = rw (change-increase t e, ← k)
 
-  pub posted-decrease : (w : ℕ) → increasing (t .code) ≡ false → decreasing (t .code) ≡ true → w ≡ word (byReceiver t)
+  pub posted-decrease : (w : ℕ) → increasing (stepOf (t .code)) ≡ false → decreasing (stepOf (t .code)) ≡ true → w ≡ word (byReceiver t)
       → set balances w (getD balances w 0 - t .par) ≡ changed balances (changeOf t) (t .par)
   unfolding changed balanceAt
   posted-decrease w e f k = rw (change-decrease t e f, ← k)
 
-  pub posted-none : increasing (t .code) ≡ false → decreasing (t .code) ≡ false → balances ≡ changed balances (changeOf t) (t .par)
+  pub posted-none : increasing (stepOf (t .code)) ≡ false → decreasing (stepOf (t .code)) ≡ false → balances ≡ changed balances (changeOf t) (t .par)
   unfolding changed
   posted-none e f = rw (change-none t e f)
 
@@ -168,22 +178,22 @@ posted-length balances t = go (changeOf t)
     go (increase p) = length-set balances (word p) _
     go (decrease p) = length-set balances (word p) _
 
-module _ (balances : List ℕ) (t : Transfer) (l : length balances ≡ 4096) (g : badBalances balances ≡ false)
+module _ (balances : List ℕ) (t : Transfer) (l : length balances ≡ 8192) (g : badBalances balances ≡ false)
     (n : firstOf (loanCauses balances t) ≡ 0) (s : t .sender < 16) (r : t .receiver < 16) (y : t .security < 16)
     (d : t .sender ≡ t .receiver → ⊥) where
   pub posted-sound : badBalances (changed balances (changeOf t) (t .par)) ≡ false
   unfolding changed bySender byReceiver
-  posted-sound = go (increasing (t .code)) refl (decreasing (t .code)) refl
+  posted-sound = go (increasing (stepOf (t .code))) refl (decreasing (stepOf (t .code))) refl
     where
       after : Change → Type 0
       after c = badBalances (changed balances c (t .par)) ≡ false
 
-      go : (a : Bool) → increasing (t .code) ≡ a → (b : Bool) → decreasing (t .code) ≡ b → after (changeOf t)
+      go : (a : Bool) → increasing (stepOf (t .code)) ≡ a → (b : Bool) → decreasing (stepOf (t .code)) ≡ b → after (changeOf t)
       go true e b f =
           subst after (sym (change-increase t e))
-          (written balances (bySender t) _ g (record { security = y; lender = s; borrower = r }) d (increase-room balances t n e))
+          (written balances (bySender t) _ g (record { tracking = tracking-range (t .code); security = y; lender = s; borrower = r }) d (increase-room balances t n e))
       go false e true f =
-          let range : InRange (byReceiver t) = record { security = y; lender = r; borrower = s } in
+          let range : InRange (byReceiver t) = record { tracking = tracking-range (t .code); security = y; lender = r; borrower = s } in
           let small = sound-balances balances l g .small (byReceiver t) range in
           subst after (sym (change-decrease t e f)) (written balances (byReceiver t) _ g range (λ q. d (sym q)) (omega arith))
       go false e false f = subst after (sym (change-none t e f)) g

@@ -1,4 +1,4 @@
--- Computed rows: what each tracking code does to 4,096 balances, when it is refused, and which calendars, tables, days and balances
+-- Computed rows: what each tracking code does to 8,192 balances, when it is refused, and which calendars, tables, days and balances
 -- are sound.
 use mathlib.Core.Path.{_≡_, refl}
 use mathlib.Core.Bool.{Bool, true, cond, _&&_}
@@ -19,7 +19,7 @@ use Rattle.book.proofs.Opened.{openedBook}
 
 -- account 1 has lent account 2 40,000, and account 2 has lent account 1 9,000,000,000, in security 3
 held : List ℕ
-held = set (set (replicate 4096 0) (256 * 3 + 16 * 1 + 2) 40000) (256 * 3 + 16 * 2 + 1) 9000000000
+held = set (set (replicate 8192 0) (256 * 3 + 16 * 1 + 2) 40000) (256 * 3 + 16 * 2 + 1) 9000000000
 
 -- a transfer from account 1 to account 2, or back, in security 3
 sent : ℕ → ℕ → ℕ → ℕ → Transfer
@@ -49,7 +49,7 @@ rows =
     ∷ row (sent 1 2 3 100) 40000 8999999900 0 0
     ∷ row (sent 1 2 6 100) 40000 8999999900 0 0
     ∷ row (sent 2 1 1 1) 40000 9000000001 0 1
-    ∷ row (sent 1 2 7 100) 40000 9000000000 0 0
+    ∷ row (sent 1 2 13 100) 40000 9000000000 0 0
     ∷ []
 
 flag : Bool → ℕ
@@ -70,7 +70,7 @@ number : List ℕ → List ℕ → ℕ → List ℕ → ℕ
 number calendar tables day balances = firstOf (bookCauses calendar tables day balances)
 
 zeros : List ℕ
-zeros = replicate 4096 0
+zeros = replicate 8192 0
 
 judged : Bool
 judged =
@@ -79,7 +79,7 @@ judged =
     && eqb (number (replicate 479 0) caseTables 20230404 zeros) 1
     && eqb (number weekdays (replicate 1825 0) 20230404 zeros) 1
     && eqb (number [] [] 0 []) 1
-    && eqb (number weekdays caseTables 20230404 (replicate 4095 0)) 1
+    && eqb (number weekdays caseTables 20230404 (replicate 4096 0)) 1
     && eqb (number (set weekdays 1 4294967295) (set caseTables 0 9) 20230404 zeros) 2
     && eqb (number weekdays (set caseTables 0 9) 20230405 (set zeros 0 1)) 3
     && eqb (number weekdays caseTables 20230401 zeros) 4

@@ -19,20 +19,21 @@ use Rattle.book.specs.Book.{Position, InRange, same, word, position, bal
 pub position-word : (p : Position) → InRange p → position (word p) ≡ p
 unfolding position word
 position-word p r =
+    let k : position (word p) .tracking ≡ p .tracking = omega arith in
     let s : position (word p) .security ≡ p .security = omega arith in
     let l : position (word p) .lender ≡ p .lender = omega arith in
     let b : position (word p) .borrower ≡ p .borrower = omega arith in
-    λ i. record { security = s i; lender = l i; borrower = b i }
+    λ i. record { tracking = k i; security = s i; lender = l i; borrower = b i }
 
 pub word-position : (w : ℕ) → word (position w) ≡ w
 unfolding position word
 word-position w = omega arith
 
-pub position-range : (w : ℕ) → w < 4096 → InRange (position w)
+pub position-range : (w : ℕ) → w < 8192 → InRange (position w)
 unfolding position
 position-range w h = omega arith
 
-pub word-bound : (p : Position) → InRange p → word p < 4096
+pub word-bound : (p : Position) → InRange p → word p < 8192
 unfolding word
 word-bound p r = omega arith
 
@@ -60,12 +61,13 @@ three-refl a b c = simp (eq-eqb a a refl, eq-eqb b b refl, eq-eqb c c refl)
 same-true : (p q : Position) → same p q ≡ true → p ≡ q
 unfolding same
 same-true p q e =
-    let t = three (p .security) (q .security) (p .lender) (q .lender) (p .borrower) (q .borrower) e in
-    λ i. record { security = t .first i; lender = t .second i; borrower = t .third i }
+    let k = eqb-true (p .tracking) (q .tracking) (and-left (eqb (p .tracking) (q .tracking)) _ e) in
+    let t = three (p .security) (q .security) (p .lender) (q .lender) (p .borrower) (q .borrower) (and-right (eqb (p .tracking) (q .tracking)) _ e) in
+    λ i. record { tracking = k i; security = t .first i; lender = t .second i; borrower = t .third i }
 
 pub same-refl : (p : Position) → same p p ≡ true
 unfolding same
-same-refl p = three-refl (p .security) (p .lender) (p .borrower)
+same-refl p = rw (eq-eqb (p .tracking) (p .tracking) refl) (three-refl (p .security) (p .lender) (p .borrower))
 
 pub sameness : (p q : Position) → (p ≡ q) ⊎ (same p q ≡ false)
 sameness p q = go (same p q) refl
@@ -81,31 +83,31 @@ apart p q rp rq d e =
 
 -- ---- the layout of a par
 
-pub length-layout : (f : Position → ℕ) → length (layout f) ≡ 4096
+pub length-layout : (f : Position → ℕ) → length (layout f) ≡ 8192
 unfolding layout
-length-layout f = length-tabulate 0 4096 (λ w. f (position w))
+length-layout f = length-tabulate 0 8192 (λ w. f (position w))
 
-pub getD-layout : (f : Position → ℕ) (w : ℕ) → w < 4096 → getD (layout f) w 0 ≡ f (position w)
+pub getD-layout : (f : Position → ℕ) (w : ℕ) → w < 8192 → getD (layout f) w 0 ≡ f (position w)
 unfolding layout
-getD-layout f w h = getD-tabulate 0 4096 (λ w. f (position w)) 0 w h ∙ ap (λ (v : ℕ). f (position v)) (zero-add w)
+getD-layout f w h = getD-tabulate 0 8192 (λ w. f (position w)) 0 w h ∙ ap (λ (v : ℕ). f (position v)) (zero-add w)
 
 -- reading a position gives its par
 pub read : (f : Position → ℕ) (p : Position) → InRange p → balanceAt (layout f) p ≡ f p
 unfolding balanceAt
 read f p r = getD-layout f (word p) (word-bound p r) ∙ ap f (position-word p r)
 
--- 4,096 words that read as f are its layout
-pub is-layout : (f : Position → ℕ) (balances : List ℕ) → length balances ≡ 4096
+-- 8,192 words that read as f are its layout
+pub is-layout : (f : Position → ℕ) (balances : List ℕ) → length balances ≡ 8192
     → ((p : Position) → InRange p → balanceAt balances p ≡ f p) → balances ≡ layout f
 unfolding balanceAt
 is-layout f balances n h =
     ext-getD 0 balances (layout f) (n ∙ sym (length-layout f))
-    (λ w k. let m : w < 4096 = omega arith in
+    (λ w k. let m : w < 8192 = omega arith in
     subst (λ (v : ℕ). getD balances v 0 ≡ getD (layout f) w 0) (word-position w)
     (h (position w) (position-range w m) ∙ sym (getD-layout f w m)))
 
 -- what writing a word leaves at each position
-pub write : (balances : List ℕ) (p : Position) (v : ℕ) (q : Position) → length balances ≡ 4096 → InRange p → InRange q
+pub write : (balances : List ℕ) (p : Position) (v : ℕ) (q : Position) → length balances ≡ 8192 → InRange p → InRange q
     → balanceAt (set balances (word p) v) q ≡ cond (same p q) v (balanceAt balances q)
 unfolding balanceAt
 write balances p v q n rp rq = go (sameness p q)

@@ -6,35 +6,39 @@ use lib.Dec.{eqb}
 use lib.ListN.{getD}
 use Rattle.lists.specs.Tabulate.{tabulate}
 
--- 4,096 words hold the balances: 16 securities, 16 lenders, 16 borrowers.
+-- 8,192 words hold the balances, 4,096 of lending and then 4,096 of repo: 16 securities, 16 lenders, 16 borrowers each.
 abbrev pub balanceWords : ℕ
-balanceWords = 4096
+balanceWords = 8192
 
 -- A balance is at most 9,000,000,000.
 abbrev pub largestBalance : ℕ
 largestBalance = 9000000000
 
--- A position: what one account has lent another in one security.
+-- A position: what one account has lent another in one security, on loan (tracking 0) or on repo (tracking 1).
 pub record Position : Type 0 where
+  pub tracking : ℕ
   pub security : ℕ
   pub lender : ℕ
   pub borrower : ℕ
 
 -- A position of the book's 16 securities and 16 accounts.
 pub record InRange (p : Position) : Type 0 where
+  pub tracking : p .tracking < 2
   pub security : p .security < 16
   pub lender : p .lender < 16
   pub borrower : p .borrower < 16
 
 unfoldable pub same : Position → Position → Bool
-same p q = eqb (p .security) (q .security) && eqb (p .lender) (q .lender) && eqb (p .borrower) (q .borrower)
+same p q =
+    eqb (p .tracking) (q .tracking)
+    && (eqb (p .security) (q .security) && eqb (p .lender) (q .lender) && eqb (p .borrower) (q .borrower))
 
 -- The word that holds a position, and the position that a word holds.
 unfoldable pub word : Position → ℕ
-word p = 256 * p .security + 16 * p .lender + p .borrower
+word p = 4096 * p .tracking + 256 * p .security + 16 * p .lender + p .borrower
 
 unfoldable pub position : ℕ → Position
-position w = record { security = w / 256; lender = w / 16 % 16; borrower = w % 16 }
+position w = record { tracking = w / 4096; security = w / 256 % 16; lender = w / 16 % 16; borrower = w % 16 }
 
 -- The par of a position.
 unfoldable pub balanceAt : List ℕ → Position → ℕ

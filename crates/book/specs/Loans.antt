@@ -8,19 +8,26 @@ use Rattle.lists.specs.First.{Cause, cause}
 use Rattle.records.specs.declared.Transfer.{Transfer}
 use Rattle.book.specs.Book.{largestBalance, Position, word, balanceAt}
 
--- Codes 1 start, 4 return reversal and 5 balance-only increase add par to what the sender has lent the receiver.
+-- Codes 7 to 12 do for repo what 1 to 6 do for lending: the tracking of a code, and its place in the tracking.
+unfoldable pub trackingOf : ℕ → ℕ
+trackingOf code = cond (ltb 6 code) 1 0
+
+unfoldable pub stepOf : ℕ → ℕ
+stepOf code = cond (ltb 6 code) (code - 6) code
+
+-- 1 start, 4 return reversal and 5 balance-only increase add par to what the sender has lent the receiver.
 unfoldable pub increasing : ℕ → Bool
 increasing code = eqb code 1 || eqb code 4 || eqb code 5
 
 unfoldable pub bySender : Transfer → Position
-bySender t = record { security = t .security; lender = t .sender; borrower = t .receiver }
+bySender t = record { tracking = trackingOf (t .code); security = t .security; lender = t .sender; borrower = t .receiver }
 
--- Codes 2 start reversal, 3 return and 6 balance-only decrease take par from what the receiver has lent the sender.
+-- 2 start reversal, 3 return and 6 balance-only decrease take par from what the receiver has lent the sender.
 unfoldable pub decreasing : ℕ → Bool
 decreasing code = eqb code 2 || eqb code 3 || eqb code 6
 
 unfoldable pub byReceiver : Transfer → Position
-byReceiver t = record { security = t .security; lender = t .receiver; borrower = t .sender }
+byReceiver t = record { tracking = trackingOf (t .code); security = t .security; lender = t .receiver; borrower = t .sender }
 
 -- Loans each way stand beside each other: a transfer changes one position, or none.
 pub data Change : Type 0 where
@@ -29,7 +36,7 @@ pub data Change : Type 0 where
   decrease : Position → Change
 
 unfoldable pub changeOf : Transfer → Change
-changeOf t = cond (increasing (t .code)) (increase (bySender t)) (cond (decreasing (t .code)) (decrease (byReceiver t)) unchanged)
+changeOf t = cond (increasing (stepOf (t .code))) (increase (bySender t)) (cond (decreasing (stepOf (t .code))) (decrease (byReceiver t)) unchanged)
 
 -- The balances after a change of par.
 unfoldable pub changed : List ℕ → Change → ℕ → List ℕ

@@ -61,7 +61,7 @@ fn set_tables(message: &[u8], calendar: &mut [u32; 480], tables: &mut [u32; 1824
 }
 
 // Sets the balances from a message and answers the book.
-fn set_book(message: &[u8], balances: &mut [u64; 4096]) -> Book {
+fn set_book(message: &[u8], balances: &mut [u64; 8192]) -> Book {
     book::clear(balances);
     pairs_at(message, 12, word_at(message, 8), balances);
     Book {
@@ -77,7 +77,7 @@ pub fn set(
     calendar: &mut [u32; 480],
     tables: &mut [u32; 1824],
     book: Book,
-    balances: &mut [u64; 4096],
+    balances: &mut [u64; 8192],
 ) -> Book {
     let message = part(s, step.message, step.message_length);
     if step.kind == 3 {

@@ -48,11 +48,20 @@ fn print_claims(claims: &[u8], n: usize) {
     }
 }
 
+// Writes the name of a word's tracking: the words of repo stand behind those of lending.
+fn print_tracking(w: usize) {
+    if w < 4096 {
+        print(b" lent");
+        return;
+    }
+    print(b" repo");
+}
+
 // Writes the line of a word of the balances where it is not zero.
 fn print_balance(w: usize, par: u64) {
     if par != 0 {
-        print(b" lent");
-        print_field((w / 256) as u64);
+        print_tracking(w);
+        print_field((w / 256 % 16) as u64);
         print_field((w / 16 % 16) as u64);
         print_field((w % 16) as u64);
         print_field(par);
@@ -103,7 +112,7 @@ fn take_step(
     calendar: &mut [u32; 480],
     tables: &mut [u32; 1824],
     book: Book,
-    balances: &mut [u64; 4096],
+    balances: &mut [u64; 8192],
     claims: &mut [u8],
 ) -> Book {
     if !steps::is_call(step) {
@@ -126,7 +135,7 @@ fn take_steps(
     s: &[u8],
     calendar: &mut [u32; 480],
     tables: &mut [u32; 1824],
-    balances: &mut [u64; 4096],
+    balances: &mut [u64; 8192],
     claims: &mut [u8; 4096],
 ) {
     let mut book = Book { day: 0, count: 0 };
@@ -144,7 +153,7 @@ fn take_steps(
 fn run(s: &[u8]) {
     let mut calendar = [0u32; 480];
     let mut tables = [0u32; 1824];
-    let mut balances = [0u64; 4096];
+    let mut balances = [0u64; 8192];
     let mut claims = [0u8; 4096];
     take_steps(s, &mut calendar, &mut tables, &mut balances, &mut claims);
 }

@@ -1,6 +1,6 @@
 -- The cases marked P, the mistakes that document 01 rules out, and a list of calls, each as a row: an opening, calls with real message
 -- bytes, and every answer written out. One theorem covers all rows, run on the stored book, at full size: 480 words of calendar, 1,824 of
--- tables, 4,096 balances. A second one computes the ledger of a list of four calls; that run and ledger agree on every list is
+-- tables, 8,192 balances. A second one computes the ledger of a list of four calls; that run and ledger agree on every list is
 -- `every-history`.
 use mathlib.Core.Path.{_≡_, refl}
 use mathlib.Core.Bool.{Bool, true, false, _&&_}
@@ -17,6 +17,7 @@ use Rattle.history.specs.Calls.{Call, transfer, close}
 use Rattle.history.specs.Results.{Answer, opened, runFrom}
 use Rattle.history.specs.Ledger.{Entry, started, balancesOf, judged}
 use Rattle.history.specs.Owed.{owed}
+use Rattle.history.specs.Statement.{ofAll}
 use Rattle.history.proofs.Opened.{openedHistory}
 
 -- ---- messages
@@ -316,7 +317,7 @@ hold balances = all (λ w. eqb (getD balances (w .index) 0) (w .value))
 -- the run gives the answers, and the balances after it hold the words
 holds : Case → Bool
 holds c =
-    let start = opened weekdays (c .tables) (replicate 4096 7) (c .day) in
+    let start = opened weekdays (c .tables) (replicate 8192 7) (c .day) in
     let r = runFrom weekdays (c .tables) start (c .calls) in
     eqb (start .number) 0 && sameAnswers (r .answers) (c .answers) && hold (r .balances) (c .held)
 
@@ -362,7 +363,7 @@ listed =
 -- the interest that the history owes a payee from a payer in security 0
 owes : List Entry → ℕ → ℕ → ℕ → Bool
 owes es payer payee cents =
-    eqb (owed weekdays caseTables ofInterest (λ row. true) es (record { security = 0; payee = payee; payer = payer })) cents
+    eqb (owed weekdays caseTables ofInterest ofAll es (record { security = 0; payee = payee; payer = payer })) cents
 
 -- the ledger gives the answers, its balances hold the words, and it owes April's coupon to the buyer and May's to the lender
 kept : Case → Bool

@@ -17,7 +17,7 @@ const HELP_WORD: [u8; 6] = *b"--help";
 
 const VERSION_WORD: [u8; 9] = *b"--version";
 
-const VERSION: [u8; 15] = *b"claimrun 1.2.0\n";
+const VERSION: [u8; 15] = *b"claimrun 1.3.0\n";
 
 const ARGUMENTS: [u8; 60] = *b"claimrun: takes no arguments other than --help or --version\n";
 
@@ -222,7 +222,7 @@ fn main() {
     let n = read_book(&mut file);
     let mut calendar = [0u32; 480];
     let mut tables = [0u32; 1824];
-    let mut balances = [0u64; 4096];
+    let mut balances = [0u64; 8192];
     let mut input = io::large_buffer();
     let mut output = [0u8; 262144];
     serve_book(

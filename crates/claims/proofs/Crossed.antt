@@ -28,12 +28,12 @@ pub rising-crossed : (calendar tables : List ℕ) (day s : ℕ) → rising (λ r
 unfolding crossed
 rising-crossed calendar tables day s e = rising-select _ _ (filledRows tables s) e
 
--- the balance of a lender and a borrower in a security is the word 256s + 16l + b
-pub balance-word : (balances : List ℕ) (s l b : ℕ) → l < 16 → b < 16
-    → getD (lenderBalances (securityBalances balances s) l) b 0 ≡ getD balances (256 * s + 16 * l + b) 0
+-- the balance of a lender and a borrower in a security is the word 4096k + 256s + 16l + b
+pub balance-word : (balances : List ℕ) (k s l b : ℕ) → l < 16 → b < 16
+    → getD (lenderBalances (securityBalances balances k s) l) b 0 ≡ getD balances (4096 * k + 256 * s + 16 * l + b) 0
 unfolding securityBalances lenderBalances
-balance-word balances s l b hl hb =
-    let held = take 256 (drop (256 * s) balances) in
+balance-word balances k s l b hl hb =
+    let held = take 256 (drop (4096 * k + 256 * s) balances) in
     getD-take 16 (drop (16 * l) held) b 0 hb ∙ getD-drop (16 * l) held b 0
-    ∙ getD-take 256 (drop (256 * s) balances) (16 * l + b) 0 (omega arith) ∙ getD-drop (256 * s) balances (16 * l + b) 0
+    ∙ getD-take 256 (drop (4096 * k + 256 * s) balances) (16 * l + b) 0 (omega arith) ∙ getD-drop (4096 * k + 256 * s) balances (16 * l + b) 0
     ∙ ap (λ (i : ℕ). getD balances i 0) (omega arith)

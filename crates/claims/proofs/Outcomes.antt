@@ -1,16 +1,17 @@
 -- The amount rule in other words; outcome, release and slot by their cases; each field of a claim.
-use mathlib.Core.Path.{_≡_, refl, _∙_}
+use mathlib.Core.Path.{_≡_, refl, sym, _∙_}
 use mathlib.Core.Logic.{_≢_}
-use mathlib.Core.Bool.{true, false, cond, _&&_}
+use mathlib.Core.Bool.{Bool, true, false, cond, _&&_, _||_, true≢false}
 use mathlib.Core.List.{List}
 use Prim.Native.Nat.{ℕ, zero, suc, _+_, _*_, _≤_, _<_}
 use native.Mathlib.Omega.{arith}
 use lib.Dec.{eqb}
-use borrow.Author.Tests.{eq-eqb, ne-eqb, le-leb, lt-leb}
+use borrow.Author.Tests.{eq-eqb, ne-eqb, eqb-true, le-leb, lt-leb}
 use Rattle.days.specs.Days.{bitOn, openAfter, openFrom}
 use Rattle.records.specs.declared.Claim.{Claim}
 use Rattle.securities.specs.Securities.{securityOf, typeOf, Row, goodRow}
-use Rattle.claims.specs.Amounts.{failType, interimType, Part, ofInterest, ofPrincipal, centsOn, centsFor, factorFor, amount, outcomeOf, isLate, releaseOf, isEarly, slotOf, Parties, claimOn}
+use Rattle.claims.specs.Amounts.{failType, interimType, Part, ofInterest, ofPrincipal, centsOn, centsFor, factorFor, amount, isTracked, outcomeOf, isLate, releaseOf, isEarly, slotOf, Parties, claimOn}
+use Rattle.claims.specs.Close.{trackingType}
 use Rattle.claims.proofs.Dues.{isInterimOf, interim-timely}
 
 -- ---- the amount rule
@@ -37,26 +38,49 @@ module _ (payer : ℕ) (row : Row) (interest principal : ℕ) where
       go zero (suc p) k = ne-eqb (suc p) 0 (omega arith)
       go (suc i) p k = rw (ne-eqb (suc i) 0 (omega arith))
 
-  pub lending-final : 0 < interest + principal → row .final ≡ 1 → outcomeOf 3 payer row interest principal ≡ 2
+  -- a lending or repo claim on a final row
+  pub tracked-final : (claimType : ℕ) → isTracked claimType ≡ true → 0 < interest + principal → row .final ≡ 1
+      → outcomeOf claimType payer row interest principal ≡ 2
   unfolding outcomeOf
-  lending-final h f = rw (some h, eq-eqb (row .final) 1 f)
+  tracked-final claimType t h f = rw (some h, t, eq-eqb (row .final) 1 f)
 
-  -- a fail claim, and a lending claim on a row that is not final
+  -- a fail claim, and a lending or repo claim on a row that is not final
   pub fail-masked : 0 < interest + principal → bitOn (row .mask) payer ≡ true → outcomeOf 1 payer row interest principal ≡ 3
-  unfolding outcomeOf
+  unfolding outcomeOf isTracked
   fail-masked h m = rw (some h, m)
 
-  pub lending-masked : 0 < interest + principal → row .final ≢ 1 → bitOn (row .mask) payer ≡ true → outcomeOf 3 payer row interest principal ≡ 3
+  pub tracked-masked : (claimType : ℕ) → isTracked claimType ≡ true → 0 < interest + principal → row .final ≢ 1 → bitOn (row .mask) payer ≡ true
+      → outcomeOf claimType payer row interest principal ≡ 3
   unfolding outcomeOf
-  lending-masked h f m = rw (some h, ne-eqb (row .final) 1 f, m)
+  tracked-masked claimType t h f m = rw (some h, t, ne-eqb (row .final) 1 f, m)
 
   pub fail-settles : 0 < interest + principal → bitOn (row .mask) payer ≡ false → outcomeOf 1 payer row interest principal ≡ 0
-  unfolding outcomeOf
+  unfolding outcomeOf isTracked
   fail-settles h m = rw (some h, m)
 
-  pub lending-settles : 0 < interest + principal → row .final ≢ 1 → bitOn (row .mask) payer ≡ false → outcomeOf 3 payer row interest principal ≡ 0
+  pub tracked-settles : (claimType : ℕ) → isTracked claimType ≡ true → 0 < interest + principal → row .final ≢ 1 → bitOn (row .mask) payer ≡ false
+      → outcomeOf claimType payer row interest principal ≡ 0
   unfolding outcomeOf
-  lending-settles h f m = rw (some h, ne-eqb (row .final) 1 f, m)
+  tracked-settles claimType t h f m = rw (some h, t, ne-eqb (row .final) 1 f, m)
+
+-- ---- lending and repo
+
+-- both trackings have claims of such a type
+pub tracking-tracked : (tracking : ℕ) → tracking < 2 → isTracked (trackingType tracking) ≡ true
+unfolding isTracked trackingType
+tracking-tracked zero h = refl
+tracking-tracked (suc zero) h = refl
+tracking-tracked (suc (suc n)) h = absurd (omega arith)
+
+-- and no other type is
+tracked-types : (claimType : ℕ) → isTracked claimType ≡ true → 3 ≤ claimType
+unfolding isTracked
+tracked-types claimType t = go (eqb claimType 3) (eqb claimType 4) refl refl t
+  where
+    go : (a b : Bool) → eqb claimType 3 ≡ a → eqb claimType 4 ≡ b → (a || b) ≡ true → 3 ≤ claimType
+    go true b e f u = omega (arith, eqb-true claimType 3 e)
+    go false true e f u = omega (arith, eqb-true claimType 4 f)
+    go false false e f u = absurd (true≢false (sym u))
 
 -- ---- release and slot
 
@@ -78,28 +102,28 @@ module _ (calendar : List ℕ) (day type : ℕ) (row : Row) where
   unfolding slotOf isLate
   late-slot h = rw (le-leb (row .paymentDate) day h)
 
-  -- a fail claim whose Payment Date is to come, and every lending claim
+  -- a fail claim whose Payment Date is to come, and every lending and repo claim
   pub timely-release : day < row .paymentDate → releaseOf calendar 1 day row 0 ≡ openFrom calendar (row .paymentDate)
   unfolding releaseOf isLate
   timely-release h = rw (lt-leb (row .paymentDate) day h)
 
-  pub lending-release : releaseOf calendar 3 day row 0 ≡ openFrom calendar (row .paymentDate)
+  pub tracked-release : (claimType : ℕ) → isTracked claimType ≡ true → releaseOf calendar claimType day row 0 ≡ openFrom calendar (row .paymentDate)
   unfolding releaseOf isLate
-  lending-release = refl
+  tracked-release claimType t = rw (lt-leb claimType 2 (tracked-types claimType t))
 
   pub timely-slot : day < row .paymentDate → slotOf type 1 day row 0 ≡ cond (isEarly type) 1 3
   unfolding slotOf isLate
   timely-slot h = rw (lt-leb (row .paymentDate) day h)
 
-  pub lending-slot : slotOf type 3 day row 0 ≡ cond (isEarly type) 1 3
+  pub tracked-slot : (claimType : ℕ) → isTracked claimType ≡ true → slotOf type claimType day row 0 ≡ cond (isEarly type) 1 3
   unfolding slotOf isLate
-  lending-slot = refl
+  tracked-slot claimType t = rw (lt-leb claimType 2 (tracked-types claimType t))
 
 -- ---- an interim claim is as a fail claim
 
 module _ (calendar : List ℕ) (day type payer : ℕ) (row : Row) where
   pub interim-outcome : (interest principal : ℕ) → outcomeOf interimType payer row interest principal ≡ outcomeOf failType payer row interest principal
-  unfolding outcomeOf
+  unfolding outcomeOf isTracked
   interim-outcome interest principal = refl
 
   pub interim-as-fail : (outcome : ℕ) → releaseOf calendar interimType day row outcome ≡ releaseOf calendar failType day row outcome

@@ -64,7 +64,7 @@ manyTables =
 -- par on loan: security, lender, borrower
 balances : List ℕ
 balances =
-    set (set (set (set (set (set (set (set (replicate 4096 0)
+    set (set (set (set (set (set (set (set (replicate 8192 0)
     (256 * 0 + 16 * 1 + 2) 15000)
     (256 * 0 + 16 * 2 + 1) 1)
     (256 * 0 + 16 * 15 + 0) 9000000000)
@@ -164,7 +164,7 @@ apartTables =
 -- loans each way in security 0, two loans in security 3
 loans : List ℕ
 loans =
-    set (set (set (set (replicate 4096 0)
+    set (set (set (set (replicate 8192 0)
     (256 * 0 + 16 * 1 + 2) 40000)
     (256 * 0 + 16 * 2 + 1) 30000)
     (256 * 3 + 16 * 0 + 15) 999)

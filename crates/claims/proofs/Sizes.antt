@@ -20,9 +20,9 @@ use Rattle.records.specs.declared.Transfer.{Transfer}
 use Rattle.tags.specs.declared.Tag.{Tag}
 use Rattle.securities.specs.Securities.{securityOf, typeOf, Row, filledRows, goodRow}
 use Rattle.securities.proofs.Sound.{good-row, Sound}
-use Rattle.claims.specs.Amounts.{Part, ofInterest, ofPrincipal, centsOn, centsFor, factorFor, amount, outcomeOf, isLate, releaseOf, isEarly, slotOf, Parties, claimOn, failType, interimType, lendingType}
+use Rattle.claims.specs.Amounts.{Part, ofInterest, ofPrincipal, centsOn, centsFor, factorFor, amount, isTracked, outcomeOf, isLate, releaseOf, isEarly, slotOf, Parties, claimOn, failType, interimType}
 use Rattle.claims.specs.Fails.{isMbs, eligibleIn, waits, cut, eligible, isInterim, interimIn, interim, Due, due, fails, dues, transferParties, transferClaims}
-use Rattle.claims.specs.Close.{crossed, loanParties, loanClaim, rowClaims, closeClaims, securityBalances, lenderBalances}
+use Rattle.claims.specs.Close.{crossed, trackingType, loanParties, loanClaim, trackingClaims, rowClaims, closeClaims, securityBalances, lenderBalances}
 use Rattle.claims.proofs.Written.{Fits, AllFit, all-fit-append}
 
 -- ---- rows that keep their rules
@@ -50,7 +50,7 @@ fit-outcome : (claimType payer : ℕ) (row : Row) (i j : ℕ) → outcomeOf clai
 unfolding outcomeOf
 fit-outcome claimType payer row i j =
     fit-cond 256 (eqb i 0 && eqb j 0) 1 _ (omega arith)
-    (fit-cond 256 (eqb claimType 3 && eqb (row .final) 1) 2 _ (omega arith) (fit-cond 256 (bitOn (row .mask) payer) 3 0 (omega arith) (omega arith)))
+    (fit-cond 256 (isTracked claimType && eqb (row .final) 1) 2 _ (omega arith) (fit-cond 256 (bitOn (row .mask) payer) 3 0 (omega arith) (omega arith)))
 
 fit-slot : (type claimType day : ℕ) (row : Row) (o : ℕ) → slotOf type claimType day row o < 256
 unfolding slotOf
@@ -176,23 +176,24 @@ module _ (calendar tables : List ℕ) (kept : Kept calendar) where
   fit-rows (row ∷ rows) f r h =
       all-fit-append (f row) (eachOf rows f) (h row (and-left _ _ r)) (fit-rows rows f (and-right (rowFits (lastOpen calendar) row) _ r) h)
 
-  fit-loan : (day : ℕ) (row : Row) (x : Parties) (par : ℕ) → par ≤ 9000000000 → SmallParties x → rowFits (lastOpen calendar) row ≡ true
-      → AllFit (loanClaim calendar tables day row x par)
+  fit-loan : (day claimType : ℕ) (row : Row) (x : Parties) (par : ℕ) → claimType < 256 → par ≤ 9000000000 → SmallParties x
+      → rowFits (lastOpen calendar) row ≡ true → AllFit (loanClaim calendar tables day claimType row x par)
   unfolding loanClaim
-  fit-loan day row x par c r d = go (ltb 0 par)
+  fit-loan day claimType row x par a c r d = go (ltb 0 par)
     where
-      go : (b : Bool) → AllFit (cond b (claimOn calendar tables day 0 x par lendingType row ∷ []) [])
-      go true = (fit-claim day 0 x par lendingType row (omega arith) (omega arith) r c d, tt)
+      go : (b : Bool) → AllFit (cond b (claimOn calendar tables day 0 x par claimType row ∷ []) [])
+      go true = (fit-claim day 0 x par claimType row a (omega arith) r c d, tt)
       go false = tt
 
   pub fit-close : (day : ℕ) (balances : List ℕ)
-      → ((s l b : ℕ) → s < 16 → l < 16 → b < 16 → getD (lenderBalances (securityBalances balances s) l) b 0 ≤ 9000000000)
+      → ((k s l b : ℕ) → k < 2 → s < 16 → l < 16 → b < 16 → getD (lenderBalances (securityBalances balances k s) l) b 0 ≤ 9000000000)
       → ((s : ℕ) → s < 16 → Sound (lastOpen calendar) (filledRows tables s))
       → AllFit (closeClaims calendar tables day balances)
-  unfolding closeClaims crossed rowClaims loanParties
+  unfolding closeClaims crossed rowClaims trackingClaims trackingType loanParties
   fit-close day balances small sound =
       fit-each 16 _ (λ s i.
       fit-rows (crossed calendar tables day s) _ (all-select _ _ _ (sound-fit (lastOpen calendar) (filledRows tables s) (sound s i))) (λ row d.
+      fit-each 2 _ (λ t h.
       fit-each 16 _ (λ l j.
       fit-each 16 _ (λ b k.
-      fit-loan day row _ _ (small s l b i j k) (record { security = i; payee = j; payer = k }) d))))
+      fit-loan day _ row _ _ (omega arith) (small t s l b h i j k) (record { security = i; payee = j; payer = k }) d)))))

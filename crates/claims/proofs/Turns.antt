@@ -19,7 +19,7 @@ use Rattle.records.specs.declared.Claim.{Claim}
 use Rattle.securities.specs.Securities.{Row, rowOf, rowsFrom, rowsOf, securityOf, isEmpty, isFilled, filledRows, goodRow, goodTables}
 use Rattle.securities.proofs.Sound.{Good, good-row, sound-rows}
 use Rattle.claims.specs.Amounts.{Parties, claimOn}
-use Rattle.claims.specs.Close.{crosses, crossed, loanClaim, securityBalances, lenderBalances, rowClaims, closeClaims}
+use Rattle.claims.specs.Close.{crosses, crossed, trackingType, loanClaim, securityBalances, lenderBalances, trackingClaims, rowClaims, closeClaims}
 use Rattle.claims.specs.Passes.{each-few}
 use Rattle.claims.proofs.Runs.{each-select, each-agree}
 use Rattle.claims.proofs.TableRows.{row-part}
@@ -27,24 +27,26 @@ use Rattle.claims.specs.Turns.{small, Ready, Sound, lenderClaims, turnCl
 
 -- ---- one borrower
 
-pub loan-none : (calendar tables : List ℕ) (day : ℕ) (row : Row) (x : Parties) (par : ℕ) → par ≡ 0 → loanClaim calendar tables day row x par ≡ []
+pub loan-none : (calendar tables : List ℕ) (day claimType : ℕ) (row : Row) (x : Parties) (par : ℕ) → par ≡ 0
+    → loanClaim calendar tables day claimType row x par ≡ []
 unfolding loanClaim
-loan-none calendar tables day row x par e = rw (le-ltb 0 par (omega arith))
+loan-none calendar tables day claimType row x par e = rw (le-ltb 0 par (omega arith))
 
-pub loan-one : (calendar tables : List ℕ) (day : ℕ) (row : Row) (x : Parties) (par : ℕ) → (par ≡ 0 → ⊥)
-    → loanClaim calendar tables day row x par ≡ claimOn calendar tables day 0 x par 3 row ∷ []
+pub loan-one : (calendar tables : List ℕ) (day claimType : ℕ) (row : Row) (x : Parties) (par : ℕ) → (par ≡ 0 → ⊥)
+    → loanClaim calendar tables day claimType row x par ≡ claimOn calendar tables day 0 x par claimType row ∷ []
 unfolding loanClaim
-loan-one calendar tables day row x par e = rw (lt-ltb 0 par (positive par e))
+loan-one calendar tables day claimType row x par e = rw (lt-ltb 0 par (positive par e))
   where
     positive : (n : ℕ) → (n ≡ 0 → ⊥) → 0 < n
     positive zero f = absurd (f refl)
     positive (suc n) f = omega arith
 
-pub loan-few : (calendar tables : List ℕ) (day : ℕ) (row : Row) (x : Parties) (par : ℕ) → length (loanClaim calendar tables day row x par) ≤ 1
+pub loan-few : (calendar tables : List ℕ) (day claimType : ℕ) (row : Row) (x : Parties) (par : ℕ)
+    → length (loanClaim calendar tables day claimType row x par) ≤ 1
 unfolding loanClaim
-loan-few calendar tables day row x par = go (ltb 0 par)
+loan-few calendar tables day claimType row x par = go (ltb 0 par)
   where
-    go : (b : Bool) → length (cond b (claimOn calendar tables day 0 x par 3 row ∷ []) []) ≤ 1
+    go : (b : Bool) → length (cond b (claimOn calendar tables day 0 x par claimType row ∷ []) []) ≤ 1
     go true = omega arith
     go false = omega arith
 
@@ -65,44 +67,61 @@ small-part at w held t = all-take small w (drop at held) (all-drop small at held
 
 -- ---- the lenders of a row
 
--- a turn of the row's loop is a lender's claims
-pub row-turn : (calendar tables : List ℕ) (day s : ℕ) (held : List ℕ) (row : Row)
-    → rowClaims calendar tables day s held row ≡ each 16 (λ l. lenderClaims calendar tables day row s l (part (16 * l) 16 held))
-unfolding rowClaims lenderClaims lenderBalances
-row-turn calendar tables day s held row = refl
+-- a turn of a tracking's loop is a lender's claims
+pub tracking-turn : (calendar tables : List ℕ) (day claimType s : ℕ) (held : List ℕ) (row : Row)
+    → trackingClaims calendar tables day claimType s held row
+    ≡ each 16 (λ l. lenderClaims calendar tables day claimType row s l (part (16 * l) 16 held))
+unfolding trackingClaims lenderClaims lenderBalances
+tracking-turn calendar tables day claimType s held row = refl
 
-pub lender-few : (calendar tables : List ℕ) (day : ℕ) (row : Row) (s l : ℕ) (lent : List ℕ) → length (lenderClaims calendar tables day row s l lent) ≤ 1 * 16
+pub lender-few : (calendar tables : List ℕ) (day claimType : ℕ) (row : Row) (s l : ℕ) (lent : List ℕ)
+    → length (lenderClaims calendar tables day claimType row s l lent) ≤ 1 * 16
 unfolding lenderClaims
-lender-few calendar tables day row s l lent = each-few _ 1 16 (λ b. loan-few calendar tables day row _ _)
+lender-few calendar tables day claimType row s l lent = each-few _ 1 16 (λ b. loan-few calendar tables day claimType row _ _)
 
-pub row-few : (calendar tables : List ℕ) (day s : ℕ) (held : List ℕ) (row : Row) → length (rowClaims calendar tables day s held row) ≤ 16 * 16
-row-few calendar tables day s held row =
-    rw (row-turn calendar tables day s held row) (each-few _ 16 16 (λ l. let f = lender-few calendar tables day row s l (part (16 * l) 16 held) in omega arith))
+pub tracking-few : (calendar tables : List ℕ) (day claimType s : ℕ) (held : List ℕ) (row : Row)
+    → length (trackingClaims calendar tables day claimType s held row) ≤ 16 * 16
+tracking-few calendar tables day claimType s held row =
+    rw (tracking-turn calendar tables day claimType s held row)
+    (each-few _ 16 16 (λ l. let f = lender-few calendar tables day claimType row s l (part (16 * l) 16 held) in omega arith))
+
+-- ---- lending and repo on a row
+
+pub row-turn : (calendar tables : List ℕ) (day s : ℕ) (balances : List ℕ) (row : Row)
+    → rowClaims calendar tables day s balances row
+    ≡ each 2 (λ k. trackingClaims calendar tables day (3 + k) s (part (4096 * k + 256 * s) 256 balances) row)
+unfolding rowClaims trackingType securityBalances
+row-turn calendar tables day s balances row = refl
+
+pub row-few : (calendar tables : List ℕ) (day s : ℕ) (balances : List ℕ) (row : Row) → length (rowClaims calendar tables day s balances row) ≤ 256 * 2
+row-few calendar tables day s balances row =
+    rw (row-turn calendar tables day s balances row)
+    (each-few _ 256 2 (λ k. let f = tracking-few calendar tables day (3 + k) s (part (4096 * k + 256 * s) 256 balances) row in omega arith))
 
 -- ---- the rows of a security
 
 -- a row that the close does not cross gives nothing; one that it crosses gives its claims
-pub turn-early : (calendar tables : List ℕ) (day next s : ℕ) (held : List ℕ) (row : Row) → row .recordDate ≤ day
-    → turnClaims calendar tables day next s held row ≡ []
+pub turn-early : (calendar tables : List ℕ) (day next s : ℕ) (balances : List ℕ) (row : Row) → row .recordDate ≤ day
+    → turnClaims calendar tables day next s balances row ≡ []
 unfolding turnClaims crosses
-turn-early calendar tables day next s held row h = rw (le-ltb day (row .recordDate) h)
+turn-early calendar tables day next s balances row h = rw (le-ltb day (row .recordDate) h)
 
-pub turn-late : (calendar tables : List ℕ) (day next s : ℕ) (held : List ℕ) (row : Row) → day < row .recordDate → next < row .recordDate
-    → turnClaims calendar tables day next s held row ≡ []
+pub turn-late : (calendar tables : List ℕ) (day next s : ℕ) (balances : List ℕ) (row : Row) → day < row .recordDate → next < row .recordDate
+    → turnClaims calendar tables day next s balances row ≡ []
 unfolding turnClaims crosses
-turn-late calendar tables day next s held row h k = rw (lt-ltb day (row .recordDate) h, lt-leb (row .recordDate) next k)
+turn-late calendar tables day next s balances row h k = rw (lt-ltb day (row .recordDate) h, lt-leb (row .recordDate) next k)
 
-pub turn-crossed : (calendar tables : List ℕ) (day next s : ℕ) (held : List ℕ) (row : Row) → day < row .recordDate → row .recordDate ≤ next
-    → turnClaims calendar tables day next s held row ≡ rowClaims calendar tables day s held row
+pub turn-crossed : (calendar tables : List ℕ) (day next s : ℕ) (balances : List ℕ) (row : Row) → day < row .recordDate → row .recordDate ≤ next
+    → turnClaims calendar tables day next s balances row ≡ rowClaims calendar tables day s balances row
 unfolding turnClaims crosses
-turn-crossed calendar tables day next s held row h k = rw (lt-ltb day (row .recordDate) h, le-leb (row .recordDate) next k)
+turn-crossed calendar tables day next s balances row h k = rw (lt-ltb day (row .recordDate) h, le-leb (row .recordDate) next k)
 
-pub turn-few : (calendar tables : List ℕ) (day next s : ℕ) (held : List ℕ) (row : Row) → length (turnClaims calendar tables day next s held row) ≤ 256
+pub turn-few : (calendar tables : List ℕ) (day next s : ℕ) (balances : List ℕ) (row : Row) → length (turnClaims calendar tables day next s balances row) ≤ 512
 unfolding turnClaims
-turn-few calendar tables day next s held row = go (crosses day next row)
+turn-few calendar tables day next s balances row = go (crosses day next row)
   where
-    go : (b : Bool) → length (cond b (rowClaims calendar tables day s held row) []) ≤ 256
-    go true = omega (arith, row-few calendar tables day s held row)
+    go : (b : Bool) → length (cond b (rowClaims calendar tables day s balances row) []) ≤ 512
+    go true = omega (arith, row-few calendar tables day s balances row)
     go false = omega arith
 
 -- a run for each place, from the front
@@ -132,24 +151,24 @@ crossed-filled day next row e =
     rw (ne-eqb (row .recordDate) 0 d)
 
 -- so the claims of a security's crossed rows are a turn for each of its 16 rows
-pub security-turns : (calendar tables : List ℕ) (day next s : ℕ) (held : List ℕ) → next ≡ openAfter calendar day
-    → securityClaims calendar tables day s held
-    ≡ each 16 (λ i. turnClaims calendar tables day next s held (rowOf i (part (2 + 7 * i) 7 (securityOf tables s))))
+pub security-turns : (calendar tables : List ℕ) (day next s : ℕ) (balances : List ℕ) → next ≡ openAfter calendar day
+    → securityClaims calendar tables day s balances
+    ≡ each 16 (λ i. turnClaims calendar tables day next s balances (rowOf i (part (2 + 7 * i) 7 (securityOf tables s))))
 unfolding securityClaims crossed filledRows rowsOf turnClaims
-security-turns calendar tables day next s held e =
+security-turns calendar tables day next s balances e =
     let words = drop 2 (securityOf tables s) in
     rw (← e)
-    (ap (λ (l : List Row). eachOf l (rowClaims calendar tables day s held)) (select-both (crosses day next) isFilled (rowsFrom 16 0 words))
+    (ap (λ (l : List Row). eachOf l (rowClaims calendar tables day s balances)) (select-both (crosses day next) isFilled (rowsFrom 16 0 words))
     ∙ each-select _ _ (rowsFrom 16 0 words)
     ∙ each-row 16 0 words _
     ∙ each-agree _ _ 16 (λ i h. one i))
   where
-    test : (row : Row) → cond (crosses day next row && isFilled row) (rowClaims calendar tables day s held row) []
-        ≡ cond (crosses day next row) (rowClaims calendar tables day s held row) []
+    test : (row : Row) → cond (crosses day next row && isFilled row) (rowClaims calendar tables day s balances row) []
+        ≡ cond (crosses day next row) (rowClaims calendar tables day s balances row) []
     test row = go (crosses day next row) refl
       where
         go : (b : Bool) → crosses day next row ≡ b
-            → cond (b && isFilled row) (rowClaims calendar tables day s held row) [] ≡ cond b (rowClaims calendar tables day s held row) []
+            → cond (b && isFilled row) (rowClaims calendar tables day s balances row) [] ≡ cond b (rowClaims calendar tables day s balances row) []
         go true q = rw (crossed-filled day next row q)
         go false q = refl
 
@@ -159,28 +178,28 @@ security-turns calendar tables day next s held e =
 
     one : (i : ℕ)
         → cond (crosses day next (rowOf (0 + i) (drop (7 * i) (drop 2 (securityOf tables s)))) && isFilled (rowOf (0 + i) (drop (7 * i) (drop 2 (securityOf tables s)))))
-        (rowClaims calendar tables day s held (rowOf (0 + i) (drop (7 * i) (drop 2 (securityOf tables s))))) []
+        (rowClaims calendar tables day s balances (rowOf (0 + i) (drop (7 * i) (drop 2 (securityOf tables s))))) []
         ≡ cond (crosses day next (rowOf i (part (2 + 7 * i) 7 (securityOf tables s))))
-        (rowClaims calendar tables day s held (rowOf i (part (2 + 7 * i) 7 (securityOf tables s)))) []
+        (rowClaims calendar tables day s balances (rowOf i (part (2 + 7 * i) 7 (securityOf tables s)))) []
     one i =
         test (rowOf (0 + i) (drop (7 * i) (drop 2 (securityOf tables s))))
-        ∙ ap (λ (row : Row). cond (crosses day next row) (rowClaims calendar tables day s held row) []) (same-row i)
+        ∙ ap (λ (row : Row). cond (crosses day next row) (rowClaims calendar tables day s balances row) []) (same-row i)
 
-pub security-few : (calendar tables : List ℕ) (day s : ℕ) (held : List ℕ) → length (securityClaims calendar tables day s held) ≤ 256 * 16
-security-few calendar tables day s held =
-    rw (security-turns calendar tables day (openAfter calendar day) s held refl)
-    (each-few _ 256 16 (λ i. turn-few calendar tables day (openAfter calendar day) s held _))
+pub security-few : (calendar tables : List ℕ) (day s : ℕ) (balances : List ℕ) → length (securityClaims calendar tables day s balances) ≤ 512 * 16
+security-few calendar tables day s balances =
+    rw (security-turns calendar tables day (openAfter calendar day) s balances refl)
+    (each-few _ 512 16 (λ i. turn-few calendar tables day (openAfter calendar day) s balances _))
 
 -- ---- the securities
 
 pub close-turns : (calendar tables : List ℕ) (day : ℕ) (balances : List ℕ)
-    → closeClaims calendar tables day balances ≡ each 16 (λ s. securityClaims calendar tables day s (part (256 * s) 256 balances))
-unfolding closeClaims securityClaims securityBalances
+    → closeClaims calendar tables day balances ≡ each 16 (λ s. securityClaims calendar tables day s balances)
+unfolding closeClaims securityClaims
 close-turns calendar tables day balances = refl
 
-pub close-few : (calendar tables : List ℕ) (day : ℕ) (balances : List ℕ) → length (closeClaims calendar tables day balances) ≤ 4096 * 16
+pub close-few : (calendar tables : List ℕ) (day : ℕ) (balances : List ℕ) → length (closeClaims calendar tables day balances) ≤ 8192 * 16
 close-few calendar tables day balances =
-    rw (close-turns calendar tables day balances) (each-few _ 4096 16 (λ s. let f = security-few calendar tables day s (part (256 * s) 256 balances) in omega arith))
+    rw (close-turns calendar tables day balances) (each-few _ 8192 16 (λ s. let f = security-few calendar tables day s balances in omega arith))
 
 pub security-length : (tables : List ℕ) (s : ℕ) → length tables ≡ 1824 → s < 16 → length (securityOf tables s) ≡ 114
 unfolding securityOf

@@ -33,7 +33,7 @@ amount part par row = centsFor part par (factorFor part row)
 
 -- ---- claim types and outcomes
 
--- Claim types: 1 fail, 2 interim, 3 lending.
+-- Claim types: 1 fail, 2 interim, 3 lending, 4 repo (document 02, cards 1 and 3).
 abbrev pub failType : ℕ
 failType = 1
 
@@ -43,11 +43,18 @@ interimType = 2
 abbrev pub lendingType : ℕ
 lendingType = 3
 
--- The first that applies: 1 both amounts zero; 2 lending and final; 3 the payer's mask bit on; 0 settle.
+abbrev pub repoType : ℕ
+repoType = 4
+
+-- A claim on par on loan or on repo.
+unfoldable pub isTracked : ℕ → Bool
+isTracked claimType = eqb claimType lendingType || eqb claimType repoType
+
+-- The first that applies: 1 both amounts zero; 2 lending or repo and final; 3 the payer's mask bit on; 0 settle.
 unfoldable pub outcomeOf : ℕ → ℕ → Row → ℕ → ℕ → ℕ
 outcomeOf claimType payer row interest principal =
     cond (eqb interest 0 && eqb principal 0) 1
-    (cond (eqb claimType lendingType && eqb (row .final) 1) 2
+    (cond (isTracked claimType && eqb (row .final) 1) 2
     (cond (bitOn (row .mask) payer) 3 0))
 
 -- ---- release

@@ -1,7 +1,7 @@
 -- Document 01, section Close: the rows that a close crosses and the claims on the par on loan.
 use mathlib.Core.Bool.{Bool, cond, _&&_}
 use mathlib.Core.List.{List, [], _∷_}
-use Prim.Native.Nat.{ℕ, _*_}
+use Prim.Native.Nat.{ℕ, _+_, _*_}
 use lib.Dec.{ltb, leb}
 use lib.ListN.{getD}
 use Rattle.lists.specs.Fields.{part}
@@ -27,27 +27,40 @@ crossed calendar tables day s = select (crosses day (openAfter calendar day)) (f
 unfoldable pub loanParties : ℕ → ℕ → ℕ → Parties
 loanParties s lender borrower = record { security = s; payee = lender; payer = borrower }
 
--- The claim on a row of the par that a lender has lent a borrower, with transfer number 0; none where nothing is on loan.
-unfoldable pub loanClaim : List ℕ → List ℕ → ℕ → Row → Parties → ℕ → List Claim
-loanClaim calendar tables day row x par =
-    cond (ltb 0 par) (claimOn calendar tables day 0 x par lendingType row ∷ []) []
+-- What a book tracks in balances: 0 lending, 1 repo.
+abbrev pub trackingCount : ℕ
+trackingCount = 2
 
--- The balances of a security, and those of one lender in it.
-unfoldable pub securityBalances : List ℕ → ℕ → List ℕ
-securityBalances balances s = part (256 * s) 256 balances
+-- Claim type 3 for lending, 4 for repo.
+unfoldable pub trackingType : ℕ → ℕ
+trackingType tracking = lendingType + tracking
+
+-- The claim of a type on a row of the par that a lender has lent a borrower, with transfer number 0; none where there is no par.
+unfoldable pub loanClaim : List ℕ → List ℕ → ℕ → ℕ → Row → Parties → ℕ → List Claim
+loanClaim calendar tables day claimType row x par =
+    cond (ltb 0 par) (claimOn calendar tables day 0 x par claimType row ∷ []) []
+
+-- The balances of a tracking in a security, and those of one lender among them: lending first, repo from word 4,096 on.
+unfoldable pub securityBalances : List ℕ → ℕ → ℕ → List ℕ
+securityBalances balances tracking s = part (4096 * tracking + 256 * s) 256 balances
 
 unfoldable pub lenderBalances : List ℕ → ℕ → List ℕ
 lenderBalances held lender = part (16 * lender) 16 held
 
--- The claims on a row of a security, by lender and borrower.
-unfoldable pub rowClaims : List ℕ → List ℕ → ℕ → ℕ → List ℕ → Row → List Claim
-rowClaims calendar tables day s held row =
+-- The claims of a type on a row of a security, by lender and borrower.
+unfoldable pub trackingClaims : List ℕ → List ℕ → ℕ → ℕ → ℕ → List ℕ → Row → List Claim
+trackingClaims calendar tables day claimType s held row =
     each accountCount λ lender.
     each accountCount λ borrower.
-    loanClaim calendar tables day row (loanParties s lender borrower) (getD (lenderBalances held lender) borrower 0)
+    loanClaim calendar tables day claimType row (loanParties s lender borrower) (getD (lenderBalances held lender) borrower 0)
 
--- The claims of a close, in the order security, row, lender, borrower.
+-- The claims on a row of a security, lending before repo.
+unfoldable pub rowClaims : List ℕ → List ℕ → ℕ → ℕ → List ℕ → Row → List Claim
+rowClaims calendar tables day s balances row =
+    each trackingCount λ tracking. trackingClaims calendar tables day (trackingType tracking) s (securityBalances balances tracking s) row
+
+-- The claims of a close, in the order security, row, tracking, lender, borrower.
 unfoldable pub closeClaims : List ℕ → List ℕ → ℕ → List ℕ → List Claim
 closeClaims calendar tables day balances =
     each securityCount λ s.
-    eachOf (crossed calendar tables day s) (rowClaims calendar tables day s (securityBalances balances s))
+    eachOf (crossed calendar tables day s) (rowClaims calendar tables day s balances)

@@ -40,15 +40,15 @@ pub record Sound (calendar tables : List ℕ) (day next security index : ℕ) (r
   pub words : row ≡ part (2 + 7 * index) 7 (securityOf tables security)
 
 -- The claims of a lender on a row, by borrower.
-unfoldable pub lenderClaims : List ℕ → List ℕ → ℕ → Row → ℕ → ℕ → List ℕ → List Claim
-lenderClaims calendar tables day row s lender lent =
-    each 16 λ borrower. loanClaim calendar tables day row (loanParties s lender borrower) (getD lent borrower 0)
+unfoldable pub lenderClaims : List ℕ → List ℕ → ℕ → ℕ → Row → ℕ → ℕ → List ℕ → List Claim
+lenderClaims calendar tables day claimType row s lender lent =
+    each 16 λ borrower. loanClaim calendar tables day claimType row (loanParties s lender borrower) (getD lent borrower 0)
 
 -- The claims on a row if the close crosses it.
 unfoldable pub turnClaims : List ℕ → List ℕ → ℕ → ℕ → ℕ → List ℕ → Row → List Claim
-turnClaims calendar tables day next s held row =
-    cond (crosses day next row) (rowClaims calendar tables day s held row) []
+turnClaims calendar tables day next s balances row =
+    cond (crosses day next row) (rowClaims calendar tables day s balances row) []
 
 -- The claims on a security's rows.
 unfoldable pub securityClaims : List ℕ → List ℕ → ℕ → ℕ → List ℕ → List Claim
-securityClaims calendar tables day s held = eachOf (crossed calendar tables day s) (rowClaims calendar tables day s held)
+securityClaims calendar tables day s balances = eachOf (crossed calendar tables day s) (rowClaims calendar tables day s balances)

@@ -38,7 +38,7 @@ fn store(
     next: u32,
     balances: &[u64],
 ) -> usize
-    requires { ⌜ SoundClose (now calendar) (now tables) day next × (length (now balances) ≡ 4096) × (all small (now balances) ≡ true) × Free true (now claims) 0 (closeClaims (now calendar) (now tables) day (now balances)) × (n ≡ length (closeClaims (now calendar) (now tables) day (now balances))) ⌝ }
+    requires { ⌜ SoundClose (now calendar) (now tables) day next × (length (now balances) ≡ 8192) × (all small (now balances) ≡ true) × Free true (now claims) 0 (closeClaims (now calendar) (now tables) day (now balances)) × (n ≡ length (closeClaims (now calendar) (now tables) day (now balances))) ⌝ }
     ensures { λ r. ⌜ Passed true (now (claims .entry)) (now (claims .exit)) 0 r (closeClaims (now (calendar .entry)) (now (tables .entry)) day (now (balances .entry))) ⌝ }
 {
     if n == 0 {

@@ -1,4 +1,4 @@
-// Runs the steps of extremes.in: calls at the ends of their ranges, with claim buffers up to 2,150,401 bytes.
+// Runs the steps of extremes.in: calls at the ends of their ranges, with claim buffers up to 4,300,801 bytes.
 // It writes a line for each call: its name, number, day, count and claims, and the checksums of the claim buffer and of the balances
 // after it. Before each call the claim buffer holds the remainders of its places by 251.
 use book::Book;
@@ -40,7 +40,7 @@ fn take_step(
     calendar: &mut [u32; 480],
     tables: &mut [u32; 1824],
     book: Book,
-    balances: &mut [u64; 4096],
+    balances: &mut [u64; 8192],
     claims: &mut [u8],
 ) -> Book {
     if !steps::is_call(step) {
@@ -63,7 +63,7 @@ fn take_steps(
     s: &[u8],
     calendar: &mut [u32; 480],
     tables: &mut [u32; 1824],
-    balances: &mut [u64; 4096],
+    balances: &mut [u64; 8192],
     claims: &mut [u8],
 ) {
     let mut book = Book { day: 0, count: 0 };
@@ -83,8 +83,8 @@ fn take_all(
     s: &[u8],
     calendar: &mut [u32; 480],
     tables: &mut [u32; 1824],
-    balances: &mut [u64; 4096],
-    claims: &mut [u8; 2150401],
+    balances: &mut [u64; 8192],
+    claims: &mut [u8; 4300801],
 ) {
     take_steps(s, calendar, tables, balances, claims);
 }
@@ -93,8 +93,8 @@ fn take_all(
 fn run(s: &[u8]) {
     let mut calendar = [0u32; 480];
     let mut tables = [0u32; 1824];
-    let mut balances = [0u64; 4096];
-    let mut claims = [0u8; 2150401];
+    let mut balances = [0u64; 8192];
+    let mut claims = [0u8; 4300801];
     take_all(s, &mut calendar, &mut tables, &mut balances, &mut claims);
 }
 

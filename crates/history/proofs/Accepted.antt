@@ -14,8 +14,9 @@ use Rattle.records.specs.MessageRecords.{transferKind, closeKind, transferOf, r
 use Rattle.tags.specs.ContractDateTag.{editCauses}
 use Rattle.book.specs.declared.Book.{Book}
 use Rattle.book.specs.Book.{InRange}
-use Rattle.book.specs.Loans.{Change, unchanged, increase, decrease, increasing, decreasing, bySender, byReceiver, changeOf, aboveBalance, loanCauses}
+use Rattle.book.specs.Loans.{stepOf, Change, unchanged, increase, decrease, increasing, decreasing, bySender, byReceiver, changeOf, aboveBalance, loanCauses}
 use Rattle.book.specs.Soundness.{tableCauses, bookCauses, openingCauses}
+use Rattle.book.proofs.Posted.{tracking-range}
 use Rattle.book.proofs.Judged.{SoundBook, sound-book, SoundOpening, sound-opening, numbered-opening}
 use Rattle.history.specs.Calls.{Arguments, Call, transfer, close, claimsOf}
 use Rattle.history.specs.Causes.{recordCauses, outOfRange, fieldCauses, countCauses, lastDayCauses, roomCauses, transferCauses, callCauses, causes, numberFor, openingNumber}
@@ -45,6 +46,7 @@ pub record Fields (t : Transfer) : Type 0 where
   pub sender : t .sender < 16
   pub receiver : t .receiver < 16
   pub security : t .security < 16
+  pub code : t .code ≤ 12
   pub par : t .par ≤ 100000000
   pub apart : t .sender ≡ t .receiver → ⊥
 
@@ -55,6 +57,7 @@ fields tables t e =
       sender = leb-false 16 (t .sender) (search (or-false-left, or-false-right) depth 12);
       receiver = leb-false 16 (t .receiver) (search (or-false-left, or-false-right) depth 12);
       security = leb-false 16 (t .security) (search (or-false-left, or-false-right) depth 12);
+      code = ltb-false 12 (t .code) (search (or-false-left, or-false-right) depth 12);
       par = ltb-false 100000000 (t .par) (search (or-false-left, or-false-right) depth 12);
       apart = eqb-false (t .sender) (t .receiver) (search (or-false-left, or-false-right) depth 12);
     }
@@ -67,11 +70,11 @@ Within (decrease p) = InRange p
 
 in-change : (t : Transfer) → Fields t → Within (changeOf t)
 unfolding changeOf bySender byReceiver
-in-change t f = go (increasing (t .code)) (decreasing (t .code))
+in-change t f = go (increasing (stepOf (t .code))) (decreasing (stepOf (t .code)))
   where
     go : (x y : Bool) → Within (cond x (increase (bySender t)) (cond y (decrease (byReceiver t)) unchanged))
-    go true y = record { security = f .security; lender = f .sender; borrower = f .receiver }
-    go false true = record { security = f .security; lender = f .receiver; borrower = f .sender }
+    go true y = record { tracking = tracking-range (t .code); security = f .security; lender = f .sender; borrower = f .receiver }
+    go false true = record { tracking = tracking-range (t .code); security = f .security; lender = f .receiver; borrower = f .sender }
     go false false = tt
 
 -- ---- accepted calls

@@ -2,15 +2,17 @@
 use mathlib.Core.Path.{_≡_, refl, sym, ap, ap₂, _∙_, fun-ext}
 use mathlib.Core.Logic.{_⊎_, inl, inr}
 use mathlib.Core.Bool.{Bool, true, false, cond, _&&_, _||_, true≢false}
-use Prim.Native.Nat.{ℕ, _+_, _-_, _≤_}
+use Prim.Native.Nat.{ℕ, _+_, _-_, _*_, _≤_, _<_}
 use native.Mathlib.Nat.{zero-add}
 use native.Mathlib.Omega.{arith}
-use lib.Dec.{eqb}
-use borrow.Author.Tests.{ltb-false, eqb-true}
-use Rattle.lists.specs.Tests.{and-right}
+use native.Mathlib.Decide.{ℕ-discrete}
+use lib.Dec.{eqb, ltb}
+use borrow.Author.Tests.{ltb-true, ltb-false, eqb-true, eq-eqb, ne-eqb}
+use Rattle.lists.specs.Tests.{and-left, and-right}
 use Rattle.records.specs.declared.Transfer.{Transfer}
 use Rattle.book.specs.Book.{Position, InRange, same, balanceAt, layout}
-use Rattle.book.specs.Loans.{Change, unchanged, increase, decrease, increasing, decreasing, bySender, byReceiver, changeOf, changed, aboveBalance}
+use Rattle.book.specs.Loans.{trackingOf, stepOf, Change, unchanged, increase, decrease, increasing, decreasing, bySender, byReceiver, changeOf, changed, aboveBalance}
+use Rattle.book.proofs.Posted.{tracking-range}
 use Rattle.book.proofs.Words.{three, read, layout-write, same-refl, sameness}
 use Rattle.history.specs.Ledger.{isIncrease, isDecrease}
 use Rattle.history.proofs.Accepted.{Fields, Within}
@@ -46,30 +48,107 @@ one-way c e = decreasing-codes c ∙ go (eqb c 1) (eqb c 4) (eqb c 5) refl refl 
     go false false true i j k h = rw (eqb-true c 5 k)
     go false false false i j k h = absurd (true≢false (sym h))
 
--- an increase changes the sender's loan to the receiver, a decrease the receiver's to the sender
-increase-test : (t : Transfer) (p : Position) → isIncrease t p ≡ (increasing (t .code) && same (bySender t) p)
-unfolding isIncrease increasing same bySender
-increase-test t p = refl
+-- ---- a code by its tracking and its place in it
 
-decrease-test : (t : Transfer) (p : Position) → isDecrease t p ≡ (decreasing (t .code) && same (byReceiver t) p)
+pub code-parts : (c : ℕ) → 6 * trackingOf c + stepOf c ≡ c
+unfolding trackingOf stepOf
+code-parts c = go (ltb 6 c) refl
+  where
+    go : (b : Bool) → ltb 6 c ≡ b → 6 * cond b 1 0 + cond b (c - 6) c ≡ c
+    go true e = omega (arith, ltb-true 6 c e)
+    go false e = omega arith
+
+-- codes to 12: places 0 to 6
+pub step-bound : (c : ℕ) → c ≤ 12 → stepOf c ≤ 6
+unfolding stepOf
+step-bound c h = go (ltb 6 c) refl
+  where
+    go : (b : Bool) → ltb 6 c ≡ b → cond b (c - 6) c ≤ 6
+    go true e = omega arith
+    go false e = omega (arith, ltb-false 6 c e)
+
+-- a code above 0 has a place above 0
+step-above : (c : ℕ) → 0 < c → 0 < stepOf c
+unfolding stepOf
+step-above c h = go (ltb 6 c) refl
+  where
+    go : (b : Bool) → ltb 6 c ≡ b → 0 < cond b (c - 6) c
+    go true e = omega (arith, ltb-true 6 c e)
+    go false e = h
+
+-- the code with a place in a tracking
+code-test : (c k n : ℕ) → c ≤ 12 → 0 < n → n ≤ 6 → eqb c (6 * k + n) ≡ (eqb (trackingOf c) k && eqb (stepOf c) n)
+code-test c k n h l m = go (ℕ-discrete (trackingOf c) k) (ℕ-discrete (stepOf c) n)
+  where
+    go : Dec (trackingOf c ≡ k) → Dec (stepOf c ≡ n) → eqb c (6 * k + n) ≡ (eqb (trackingOf c) k && eqb (stepOf c) n)
+    go (yes p) (yes q) = rw (eq-eqb c (6 * k + n) (omega (arith, code-parts c, p, q)), eq-eqb (trackingOf c) k p, eq-eqb (stepOf c) n q)
+    go (yes p) (no d) = rw (ne-eqb c (6 * k + n) (λ e. d (omega (arith, code-parts c, p, e))), eq-eqb (trackingOf c) k p, ne-eqb (stepOf c) n d)
+    go (no d) q =
+        rw (ne-eqb c (6 * k + n) (λ e. d (omega (arith, code-parts c, step-bound c h, step-above c (omega (arith, e)), e))), ne-eqb (trackingOf c) k d)
+
+-- three of them
+and-or : (a x y z : Bool) → ((a && x) || (a && y) || (a && z)) ≡ (a && (x || y || z))
+and-or true x y z = refl
+and-or false x y z = refl
+
+and-turn : (a b c : Bool) → (c && (a && b)) ≡ (b && (a && c))
+and-turn true true true = refl
+and-turn true true false = refl
+and-turn true false true = refl
+and-turn true false false = refl
+and-turn false true true = refl
+and-turn false true false = refl
+and-turn false false true = refl
+and-turn false false false = refl
+
+-- an increase changes the sender's loan to the receiver, a decrease the receiver's to the sender
+increase-test : (t : Transfer) (p : Position) → t .code ≤ 12 → isIncrease t p ≡ (increasing (stepOf (t .code)) && same (bySender t) p)
+unfolding isIncrease increasing same bySender
+increase-test t p h =
+    let k = p .tracking in
+    let c = t .code in
+    rw (
+      code-test c k 1 h (omega arith) (omega arith),
+      code-test c k 4 h (omega arith) (omega arith),
+      code-test c k 5 h (omega arith) (omega arith),
+      and-or (eqb (trackingOf c) k) (eqb (stepOf c) 1) (eqb (stepOf c) 4) (eqb (stepOf c) 5),
+    )
+    (and-turn (eqb (trackingOf c) k) (eqb (stepOf c) 1 || eqb (stepOf c) 4 || eqb (stepOf c) 5) _)
+
+decrease-test : (t : Transfer) (p : Position) → t .code ≤ 12 → isDecrease t p ≡ (decreasing (stepOf (t .code)) && same (byReceiver t) p)
 unfolding isDecrease decreasing same byReceiver
-decrease-test t p = refl
+decrease-test t p h =
+    let k = p .tracking in
+    let c = t .code in
+    rw (
+      code-test c k 2 h (omega arith) (omega arith),
+      code-test c k 3 h (omega arith) (omega arith),
+      code-test c k 6 h (omega arith) (omega arith),
+      and-or (eqb (trackingOf c) k) (eqb (stepOf c) 2) (eqb (stepOf c) 3) (eqb (stepOf c) 6),
+    )
+    (and-turn (eqb (trackingOf c) k) (eqb (stepOf c) 2 || eqb (stepOf c) 3 || eqb (stepOf c) 6) _)
 
 -- an increased position has the fields of the transfer
 pub increase-range : (t : Transfer) (p : Position) → isIncrease t p ≡ true → Fields t → InRange p
-unfolding isIncrease
+unfolding same bySender
 increase-range t p e f =
-    let k = three (t .security) (p .security) (t .sender) (p .lender) (t .receiver) (p .borrower)
-    (and-right (eqb (t .code) 1 || eqb (t .code) 4 || eqb (t .code) 5) _ e) in
-    let s = k .first in
-    let l = k .second in
-    let r = k .third in
-    record { security = omega (arith, f .security); lender = omega (arith, f .sender); borrower = omega (arith, f .receiver) }
+    let s = and-right (increasing (stepOf (t .code))) (same (bySender t) p) (sym (increase-test t p (f .code)) ∙ e) in
+    let k = eqb-true _ (p .tracking) (and-left (eqb (trackingOf (t .code)) (p .tracking)) _ s) in
+    let r = three (t .security) (p .security) (t .sender) (p .lender) (t .receiver) (p .borrower) (and-right (eqb (trackingOf (t .code)) (p .tracking)) _ s) in
+    let a = r .first in
+    let l = r .second in
+    let b = r .third in
+    record {
+      tracking = omega (arith, k, tracking-range (t .code));
+      security = omega (arith, f .security);
+      lender = omega (arith, f .sender);
+      borrower = omega (arith, f .receiver);
+    }
 
 -- the change of a transfer adds and takes what the ledger counts
-is-added : (t : Transfer) (p : Position) → added (changeOf t) (t .par) p ≡ cond (isIncrease t p) (t .par) 0
+is-added : (t : Transfer) (p : Position) → t .code ≤ 12 → added (changeOf t) (t .par) p ≡ cond (isIncrease t p) (t .par) 0
 unfolding changeOf added
-is-added t p = rw (increase-test t p) (go (increasing (t .code)) (decreasing (t .code)))
+is-added t p h = rw (increase-test t p h) (go (increasing (stepOf (t .code))) (decreasing (stepOf (t .code))))
   where
     go : (x y : Bool)
         → added (cond x (increase (bySender t)) (cond y (decrease (byReceiver t)) unchanged)) (t .par) p
@@ -78,9 +157,9 @@ is-added t p = rw (increase-test t p) (go (increasing (t .code)) (decreasing (t 
     go false true = refl
     go false false = refl
 
-is-removed : (t : Transfer) (p : Position) → removed (changeOf t) (t .par) p ≡ cond (isDecrease t p) (t .par) 0
+is-removed : (t : Transfer) (p : Position) → t .code ≤ 12 → removed (changeOf t) (t .par) p ≡ cond (isDecrease t p) (t .par) 0
 unfolding changeOf removed
-is-removed t p = rw (decrease-test t p) (go (increasing (t .code)) (decreasing (t .code)) (one-way (t .code)))
+is-removed t p h = rw (decrease-test t p h) (go (increasing (stepOf (t .code))) (decreasing (stepOf (t .code))) (one-way (stepOf (t .code))))
   where
     go : (x y : Bool) → (x ≡ true → y ≡ false)
         → removed (cond x (increase (bySender t)) (cond y (decrease (byReceiver t)) unchanged)) (t .par) p
@@ -117,13 +196,13 @@ module _ (plus minus : Position → ℕ) (covered : (p : Position) → minus p �
       layout-write net _ q _ r (rw (same-refl q) (omega (arith, read net q r, covered q))) (λ p d. rw d (simp zero-add))
 
   -- the same, said of the transfer
-  pub covered-transfer : (t : Transfer) → Within (changeOf t) → aboveBalance (layout net) (changeOf t) (t .par) ≡ false
+  pub covered-transfer : (t : Transfer) → t .code ≤ 12 → Within (changeOf t) → aboveBalance (layout net) (changeOf t) (t .par) ≡ false
       → (p : Position) → cond (isDecrease t p) (t .par) 0 + minus p ≤ cond (isIncrease t p) (t .par) 0 + plus p
-  covered-transfer t r e p = rw (← is-removed t p, ← is-added t p) (covered-after (changeOf t) (t .par) r e p)
+  covered-transfer t h r e p = rw (← is-removed t p h, ← is-added t p h) (covered-after (changeOf t) (t .par) r e p)
 
-  pub balances-transfer : (t : Transfer) → Within (changeOf t) → aboveBalance (layout net) (changeOf t) (t .par) ≡ false
+  pub balances-transfer : (t : Transfer) → t .code ≤ 12 → Within (changeOf t) → aboveBalance (layout net) (changeOf t) (t .par) ≡ false
       → changed (layout net) (changeOf t) (t .par)
       ≡ layout (λ p. (cond (isIncrease t p) (t .par) 0 + plus p) - (cond (isDecrease t p) (t .par) 0 + minus p))
-  balances-transfer t r e =
+  balances-transfer t h r e =
       balances-after (changeOf t) (t .par) r e
-      ∙ ap layout (fun-ext (λ p. ap₂ (λ (a b : ℕ). (a + plus p) - (b + minus p)) (is-added t p) (is-removed t p)))
+      ∙ ap layout (fun-ext (λ p. ap₂ (λ (a b : ℕ). (a + plus p) - (b + minus p)) (is-added t p h) (is-removed t p h)))

@@ -15,7 +15,7 @@ use Rattle.history.specs.Causes.{numberFor, openingNumber}
 use Rattle.history.specs.Results.{run, openedFor, opened}
 use Rattle.history.specs.Ledger.{Entry, Ledger, started, bookOf, balancesOf, keep, numberOn, judged}
 use Rattle.history.specs.Owed.{owed}
-use Rattle.history.specs.Statement.{recordsIn, paid}
+use Rattle.history.specs.Statement.{recordsIn, paid, ofTypeAndRow, ofRow, ofAll}
 use Rattle.history.specs.Continuation.{owedSince, SoundLedger, GoesOn, EveryContinuation, Period, AllGoOn, EveryPeriod}
 use Rattle.history.proofs.Accepted.{begun}
 use Rattle.history.proofs.Simulation.{Inside, inside-step, follows}
@@ -25,24 +25,24 @@ use Rattle.history.proofs.Theorem.{read-all, found-all, paid-all, store
 module _ (calendar tables : List ℕ) where
   -- ---- what is owed since then
 
-  module _ (part : Part) (rowTest : ℕ → Bool) (x : Parties) where
+  module _ (part : Part) (claimTest : ℕ → ℕ → Bool) (x : Parties) where
     owed-since : (before since : List Entry)
-        → owedSince calendar tables part rowTest before since x + owed calendar tables part rowTest before x
-        ≡ owed calendar tables part rowTest (since ++ before) x
+        → owedSince calendar tables part claimTest before since x + owed calendar tables part claimTest before x
+        ≡ owed calendar tables part claimTest (since ++ before) x
     unfolding owedSince owed
     owed-since before [] = zero-add _
     owed-since before (e ∷ since) = omega (arith, owed-since before since)
 
     paid-since : (calls : List Call) (before : Ledger) (since : List Entry) → Inside (before .entries)
         → judged calendar tables before calls .ledger .entries ≡ since ++ before .entries
-        → paid part rowTest (recordsIn (judged calendar tables before calls .answers)) x
-        ≡ owedSince calendar tables part rowTest (before .entries) since x
+        → paid part claimTest (recordsIn (judged calendar tables before calls .answers)) x
+        ≡ owedSince calendar tables part claimTest (before .entries) since x
     paid-since calls before since h e =
         omega (
           arith,
-          paid-all calendar tables part rowTest x calls before h,
+          paid-all calendar tables part claimTest x calls before h,
           owed-since (before .entries) since,
-          ap (λ (es : List Entry). owed calendar tables part rowTest es x) e,
+          ap (λ (es : List Entry). owed calendar tables part claimTest es x) e,
         )
 
   -- ---- the entries since then
@@ -101,8 +101,9 @@ every-continuation calendar tables before k calls =
       balances = f .balances;
       lent = λ p h. omega (arith, stored-lent calendar tables _ (j .ledger .entries) p h (f .balances) (f .covered p));
       readable = rw (f .answers) (read-all calendar tables calls before);
-      row-payments = λ part x row. rw (f .answers) (paid-since calendar tables part (eqb row) x calls before s (k .inside) g);
-      payments = λ part x. rw (f .answers) (paid-since calendar tables part (λ row. true) x calls before s (k .inside) g);
+      type-payments = λ part x claimType row. rw (f .answers) (paid-since calendar tables part (ofTypeAndRow claimType row) x calls before s (k .inside) g);
+      row-payments = λ part x row. rw (f .answers) (paid-since calendar tables part (ofRow row) x calls before s (k .inside) g);
+      payments = λ part x. rw (f .answers) (paid-since calendar tables part ofAll x calls before s (k .inside) g);
       crossed-once = λ row.
           let c = since-passed calendar tables (before .day) row calls before [] (passed-none calendar tables (before .day) row) .crossed-once in
           record {

@@ -1,5 +1,5 @@
 -- The claims of a call pay what the call adds to what the history owes. A transfer's claims are a sum over its eligible and its interim
--- rows; of a close's claims only those of one security, lender and borrower count between two parties.
+-- rows; of a close's claims only those of one security, lender and borrower count between two parties, on loan and on repo.
 use mathlib.Core.Path.{_≡_, refl, sym, ap, ap₂, _∙_, subst}
 use mathlib.Core.Logic.{_≢_}
 use mathlib.Core.Bool.{Bool, true, false, cond, _&&_}
@@ -11,16 +11,16 @@ use native.Mathlib.Decide.{decLt}
 use lib.Dec.{ltb, eqb}
 use lib.ListN.{getD}
 use borrow.Author.Tests.{ltb-false}
-use Rattle.lists.specs.Sums.{sum, sum-one, sum-append, sum-map, sum-equal, sum-zero, sum-cond, cond-zero}
+use Rattle.lists.specs.Sums.{sum, sum-one, sum-append, sum-map, sum-equal, sum-zero, sum-plus, sum-cond, cond-zero}
 use Rattle.lists.specs.Tabulate.{each, eachOf, sum-eachOf, sum-each-none, sum-each-one}
 use Rattle.records.specs.declared.Claim.{Claim}
 use Rattle.records.specs.declared.ReadClaim.the-variants.{Is}
 use Rattle.records.specs.MessageRecords.{transferOf}
 use Rattle.securities.specs.Securities.{Row}
 use Rattle.tags.specs.ContractDateTag.{tagged}
-use Rattle.claims.specs.Amounts.{Part, ofInterest, ofPrincipal, centsOn, centsFor, factorFor, amount, failType, interimType, lendingType, Parties, claimOn}
+use Rattle.claims.specs.Amounts.{Part, ofInterest, ofPrincipal, centsOn, centsFor, factorFor, amount, failType, interimType, lendingType, repoType, Parties, claimOn}
 use Rattle.claims.specs.Fails.{messageTag, eligible, interim, Due, due, fails, dues, transferParties, transferClaims}
-use Rattle.claims.specs.Close.{crossed, loanParties, loanClaim, securityBalances, lenderBalances, rowClaims, closeClaims}
+use Rattle.claims.specs.Close.{crossed, trackingType, loanParties, loanClaim, securityBalances, lenderBalances, trackingClaims, rowClaims, closeClaims}
 use Rattle.claims.proofs.Crossed.{balance-word}
 use Rattle.book.specs.Book.{Position, word, balanceAt}
 use Rattle.book.proofs.Words.{three, three-refl}
@@ -62,9 +62,9 @@ apart x y d = go (between x y) refl
         absurd (d (λ i. record { security = t .first i; payee = t .second i; payer = t .third i }))
     go false e = e
 
--- what the payee has lent the payer
-unfoldable pub loan : Parties → Position
-loan x = record { security = x .security; lender = x .payee; borrower = x .payer }
+-- what the payee has lent the payer on loan, and on repo
+unfoldable pub loan : ℕ → Parties → Position
+loan tracking x = record { tracking = tracking; security = x .security; lender = x .payee; borrower = x .payer }
 
 -- ---- what claims pay
 
@@ -101,60 +101,60 @@ failed-test m x = and-swap (tagged (messageTag m)) (eqb (transferOf m .code) 0) 
     and-swap false true c = refl
     and-swap false false c = refl
 
-module _ (calendar tables : List ℕ) (part : Part) (rowTest : ℕ → Bool) (x : Parties) where
+module _ (calendar tables : List ℕ) (part : Part) (claimTest : ℕ → ℕ → Bool) (x : Parties) where
   abbrev pays-by : Claim → ℕ
-  pays-by c = cond (counts rowTest x c) (centsIn part c) 0
+  pays-by c = cond (counts claimTest x c) (centsIn part c) 0
 
   -- the cents that claims have the payer pay the payee
   abbrev pub pays : List Claim → ℕ
   pays cs = sum pays-by cs
 
-  pub paid-claims : (cs : List Claim) → paid part rowTest (map Is cs) x ≡ pays cs
+  pub paid-claims : (cs : List Claim) → paid part claimTest (map Is cs) x ≡ pays cs
   unfolding paid paidIn
-  paid-claims cs = sum-map (paidIn part rowTest x) Is cs
+  paid-claims cs = sum-map (paidIn part claimTest x) Is cs
 
   pays-none : pays [] ≡ 0
   unfolding sum
   pays-none = refl
 
-  -- what a row adds
-  abbrev due-on : ℕ → Row → ℕ
-  due-on par row = cond (rowTest (row .index)) (amount part par row) 0
+  -- what a claim of a type on a row adds
+  abbrev due-on : ℕ → ℕ → Row → ℕ
+  due-on claimType par row = cond (claimTest claimType (row .index)) (amount part par row) 0
 
   -- a claim counts between its parties
   pays-one : (day n : ℕ) (y : Parties) (par claimType : ℕ) (row : Row)
-      → pays-by (claimOn calendar tables day n y par claimType row) ≡ cond (between y x) (due-on par row) 0
+      → pays-by (claimOn calendar tables day n y par claimType row) ≡ cond (between y x) (due-on claimType par row) 0
   unfolding counts claimOn centsIn between
   pays-one day n y par claimType row = go part
     where
-      go : (q : Part) → cond (counts rowTest x (claimOn calendar tables day n y par claimType row)) (centsIn q (claimOn calendar tables day n y par claimType row)) 0
-          ≡ cond (between y x) (cond (rowTest (row .index)) (amount q par row) 0) 0
-      go ofInterest = cond-and (between y x) (rowTest (row .index)) _
-      go ofPrincipal = cond-and (between y x) (rowTest (row .index)) _
+      go : (q : Part) → cond (counts claimTest x (claimOn calendar tables day n y par claimType row)) (centsIn q (claimOn calendar tables day n y par claimType row)) 0
+          ≡ cond (between y x) (cond (claimTest claimType (row .index)) (amount q par row) 0) 0
+      go ofInterest = cond-and (between y x) (claimTest claimType (row .index)) _
+      go ofPrincipal = cond-and (between y x) (claimTest claimType (row .index)) _
 
   -- ---- a transfer
 
   pays-dues : (day n : ℕ) (y : Parties) (par claimType : ℕ) (rows : List Row)
       → pays (map (λ (d : Due). claimOn calendar tables day n y par (d .claimType) (d .row)) (map (due claimType) rows))
-      ≡ cond (between y x) (amounts part rowTest par rows) 0
+      ≡ cond (between y x) (amounts part (claimTest claimType) par rows) 0
   unfolding amounts
   pays-dues day n y par claimType rows =
       sum-map _ _ (map (due claimType) rows) ∙ sum-map _ (due claimType) rows
       ∙ sum-equal _ _ rows (λ row. pays-one day n y par claimType row)
-      ∙ sum-cond (between y x) (due-on par) rows
+      ∙ sum-cond (between y x) (due-on claimType par) rows
 
   -- what a test allows, between the parties
   pays-part : (b : Bool) (day n : ℕ) (y : Parties) (par claimType : ℕ) (rows : List Row)
       → pays (map (λ (d : Due). claimOn calendar tables day n y par (d .claimType) (d .row)) (cond b (map (due claimType) rows) []))
-      ≡ cond (b && between y x) (amounts part rowTest par rows) 0
+      ≡ cond (b && between y x) (amounts part (claimTest claimType) par rows) 0
   pays-part true day n y par claimType rows = pays-dues day n y par claimType rows
   pays-part false day n y par claimType rows = pays-none
 
   -- a transfer pays its eligible rows if it is failed and its interim rows if its code is 0, from its sender to its receiver
   pub pays-transfer : (day n : ℕ) (m : List ℕ)
       → pays (transferClaims calendar tables day n (transferOf m) (messageTag m))
-      ≡ cond (isFailed m x) (amounts part rowTest (transferOf m .par) (eligible tables day (transferOf m) (messageTag m))) 0
-      + cond (isSent m x) (amounts part rowTest (transferOf m .par) (interim tables day (transferOf m))) 0
+      ≡ cond (isFailed m x) (amounts part (claimTest failType) (transferOf m .par) (eligible tables day (transferOf m) (messageTag m))) 0
+      + cond (isSent m x) (amounts part (claimTest interimType) (transferOf m .par) (interim tables day (transferOf m))) 0
   unfolding transferClaims dues
   pays-transfer day n m =
       let t = transferOf m in
@@ -172,68 +172,82 @@ module _ (calendar tables : List ℕ) (part : Part) (rowTest : ℕ → Bool) (x 
 
   -- ---- a close
 
-  pays-loan : (day : ℕ) (row : Row) (y : Parties) (par : ℕ) → pays (loanClaim calendar tables day row y par) ≡ cond (between y x) (due-on par row) 0
+  pays-loan : (day claimType : ℕ) (row : Row) (y : Parties) (par : ℕ)
+      → pays (loanClaim calendar tables day claimType row y par) ≡ cond (between y x) (due-on claimType par row) 0
   unfolding loanClaim
-  pays-loan day row y par = go (ltb 0 par) refl
+  pays-loan day claimType row y par = go (ltb 0 par) refl
     where
-      go : (b : Bool) → ltb 0 par ≡ b → pays (cond b (claimOn calendar tables day 0 y par lendingType row ∷ []) []) ≡ cond (between y x) (due-on par row) 0
-      go true e = sum-one pays-by _ ∙ pays-one day 0 y par lendingType row
+      go : (b : Bool) → ltb 0 par ≡ b → pays (cond b (claimOn calendar tables day 0 y par claimType row ∷ []) []) ≡ cond (between y x) (due-on claimType par row) 0
+      go true e = sum-one pays-by _ ∙ pays-one day 0 y par claimType row
       go false e =
           let z : par ≡ 0 = omega (arith, ltb-false 0 par e) in
           pays-none
-          ∙ sym (ap (λ (v : ℕ). cond (between y x) (due-on v row) 0) z
-          ∙ rw (amount-zero part row, cond-zero (rowTest (row .index))) (cond-zero (between y x)))
+          ∙ sym (ap (λ (v : ℕ). cond (between y x) (due-on claimType v row) 0) z
+          ∙ rw (amount-zero part row, cond-zero (claimTest claimType (row .index))) (cond-zero (between y x)))
 
-  pays-other : (day : ℕ) (row : Row) (y : Parties) (par : ℕ) → y ≢ x → pays (loanClaim calendar tables day row y par) ≡ 0
-  pays-other day row y par d = pays-loan day row y par ∙ rw (apart y x d)
+  pays-other : (day claimType : ℕ) (row : Row) (y : Parties) (par : ℕ) → y ≢ x → pays (loanClaim calendar tables day claimType row y par) ≡ 0
+  pays-other day claimType row y par d = pays-loan day claimType row y par ∙ rw (apart y x d)
 
   module _ (day : ℕ) (balances : List ℕ) where
-    abbrev held : ℕ → ℕ → ℕ → ℕ
-    held s l b = getD (lenderBalances (securityBalances balances s) l) b 0
+    abbrev held : ℕ → ℕ → ℕ → ℕ → ℕ
+    held k s l b = getD (lenderBalances (securityBalances balances k s) l) b 0
 
-    abbrev turn : Row → ℕ → ℕ → ℕ → List Claim
-    turn row s l b = loanClaim calendar tables day row (loanParties s l b) (held s l b)
+    abbrev turn : Row → ℕ → ℕ → ℕ → ℕ → List Claim
+    turn row k s l b = loanClaim calendar tables day (trackingType k) row (loanParties s l b) (held k s l b)
 
-    -- a row of the parties' own security
-    pays-crossing : AreAccounts x → (row : Row)
-        → pays (rowClaims calendar tables day (x .security) (securityBalances balances (x .security)) row) ≡ due-on (balanceAt balances (loan x)) row
-    unfolding rowClaims loanParties
-    pays-crossing r row =
-        sum-each-one pays-by 16 (λ l. each 16 (λ b. turn row (x .security) l b)) (x .payee) (r .payee)
-        (λ l d. sum-each-none pays-by 16 (turn row (x .security) l) (λ b k. pays-other day row _ _ (λ e. d (ap (λ (y : Parties). y .payee) e))))
-        ∙ sum-each-one pays-by 16 (turn row (x .security) (x .payee)) (x .payer) (r .payer)
-        (λ b d. pays-other day row _ _ (λ e. d (ap (λ (y : Parties). y .payer) e)))
-        ∙ pays-loan day row (loanParties (x .security) (x .payee) (x .payer)) (held (x .security) (x .payee) (x .payer))
-        ∙ rw (between-refl x) (ap (λ (v : ℕ). due-on v row) word-of)
+    -- a row of the parties' own security, on loan or on repo
+    pays-tracking : AreAccounts x → (row : Row) (k : ℕ)
+        → pays (trackingClaims calendar tables day (trackingType k) (x .security) (securityBalances balances k (x .security)) row)
+        ≡ due-on (trackingType k) (balanceAt balances (loan k x)) row
+    unfolding trackingClaims loanParties
+    pays-tracking r row k =
+        sum-each-one pays-by 16 (λ l. each 16 (λ b. turn row k (x .security) l b)) (x .payee) (r .payee)
+        (λ l d. sum-each-none pays-by 16 (turn row k (x .security) l) (λ b h. pays-other day _ row _ _ (λ e. d (ap (λ (y : Parties). y .payee) e))))
+        ∙ sum-each-one pays-by 16 (turn row k (x .security) (x .payee)) (x .payer) (r .payer)
+        (λ b d. pays-other day _ row _ _ (λ e. d (ap (λ (y : Parties). y .payer) e)))
+        ∙ pays-loan day _ row (loanParties (x .security) (x .payee) (x .payer)) (held k (x .security) (x .payee) (x .payer))
+        ∙ rw (between-refl x) (ap (λ (v : ℕ). due-on (trackingType k) v row) word-of)
       where
-        word-of : getD (lenderBalances (securityBalances balances (x .security)) (x .payee)) (x .payer) 0 ≡ balanceAt balances (loan x)
-        word-of = balance-word balances (x .security) (x .payee) (x .payer) (r .payee) (r .payer) ∙ (unfold balanceAt loan word in refl)
+        word-of : getD (lenderBalances (securityBalances balances k (x .security)) (x .payee)) (x .payer) 0 ≡ balanceAt balances (loan k x)
+        word-of = balance-word balances k (x .security) (x .payee) (x .payer) (r .payee) (r .payer) ∙ (unfold balanceAt loan word in refl)
+
+    -- both together
+    pays-crossing : AreAccounts x → (row : Row)
+        → pays (rowClaims calendar tables day (x .security) balances row)
+        ≡ due-on lendingType (balanceAt balances (loan 0 x)) row + due-on repoType (balanceAt balances (loan 1 x)) row
+    unfolding rowClaims trackingType each
+    pays-crossing r row = sum-append pays-by _ _ ∙ ap₂ (λ (a b : ℕ). a + b) (pays-tracking r row 0) (pays-tracking r row 1)
 
     -- a row of another security
-    not-crossing : (s : ℕ) → s ≢ x .security → (row : Row) → pays (rowClaims calendar tables day s (securityBalances balances s) row) ≡ 0
-    unfolding rowClaims loanParties
+    not-crossing : (s : ℕ) → s ≢ x .security → (row : Row) → pays (rowClaims calendar tables day s balances row) ≡ 0
+    unfolding rowClaims trackingClaims loanParties
     not-crossing s d row =
-        sum-each-none pays-by 16 (λ l. each 16 (λ b. turn row s l b))
-        (λ l k. sum-each-none pays-by 16 (turn row s l) (λ b m. pays-other day row _ _ (λ e. d (ap (λ (y : Parties). y .security) e))))
+        sum-each-none pays-by 2 _
+        (λ k h. sum-each-none pays-by 16 (λ l. each 16 (λ b. turn row k s l b))
+        (λ l i. sum-each-none pays-by 16 (turn row k s l) (λ b m. pays-other day _ row _ _ (λ e. d (ap (λ (y : Parties). y .security) e)))))
 
     abbrev rows-of : ℕ → List Row
     rows-of s = crossed calendar tables day s
 
     pub pays-close : AreAccounts x
-        → pays (closeClaims calendar tables day balances) ≡ amounts part rowTest (balanceAt balances (loan x)) (crossed calendar tables day (x .security))
+        → pays (closeClaims calendar tables day balances)
+        ≡ amounts part (claimTest lendingType) (balanceAt balances (loan 0 x)) (crossed calendar tables day (x .security))
+        + amounts part (claimTest repoType) (balanceAt balances (loan 1 x)) (crossed calendar tables day (x .security))
     unfolding closeClaims amounts
     pays-close r =
-        sum-each-one pays-by 16 (λ s. eachOf (rows-of s) (rowClaims calendar tables day s (securityBalances balances s))) (x .security) (r .security)
+        sum-each-one pays-by 16 (λ s. eachOf (rows-of s) (rowClaims calendar tables day s balances)) (x .security) (r .security)
         (λ s d. sum-eachOf pays-by _ (λ row. 0) (rows-of s) (not-crossing s d) ∙ sum-zero (λ row. 0) (rows-of s) (λ row. refl))
         ∙ sum-eachOf pays-by _ _ (rows-of (x .security)) (pays-crossing r)
+        ∙ sym (sum-plus (due-on lendingType (balanceAt balances (loan 0 x))) (due-on repoType (balanceAt balances (loan 1 x))) (rows-of (x .security)))
 
     -- who is no account of the book gets and pays nothing
     pub pays-outside : ¬ AreAccounts x → pays (closeClaims calendar tables day balances) ≡ 0
-    unfolding closeClaims rowClaims loanParties
+    unfolding closeClaims rowClaims trackingClaims loanParties
     pays-outside d =
-        sum-each-none pays-by 16 (λ s. eachOf (rows-of s) (rowClaims calendar tables day s (securityBalances balances s)))
+        sum-each-none pays-by 16 (λ s. eachOf (rows-of s) (rowClaims calendar tables day s balances))
         (λ s a. sum-eachOf pays-by _ (λ row. 0) (rows-of s)
-        (λ row. sum-each-none pays-by 16 (λ l. each 16 (λ b. turn row s l b))
-        (λ l b. sum-each-none pays-by 16 (turn row s l)
-        (λ j c. pays-other day row _ _ (λ e. d (subst (λ (y : Parties). AreAccounts y) e (record { security = a; payee = b; payer = c }))))))
+        (λ row. sum-each-none pays-by 2 _
+        (λ k h. sum-each-none pays-by 16 (λ l. each 16 (λ b. turn row k s l b))
+        (λ l b. sum-each-none pays-by 16 (turn row k s l)
+        (λ j c. pays-other day _ row _ _ (λ e. d (subst (λ (y : Parties). AreAccounts y) e (record { security = a; payee = b; payer = c })))))))
         ∙ sum-zero (λ row. 0) (rows-of s) (λ row. refl))

@@ -19,7 +19,7 @@ use Rattle.history.specs.Causes.{numberFor}
 use Rattle.history.specs.Results.{Answer, opened, run, runFrom}
 use Rattle.history.specs.Ledger.{Entry}
 use Rattle.history.specs.Owed.{owed}
-use Rattle.history.specs.Statement.{recordsIn, paid}
+use Rattle.history.specs.Statement.{recordsIn, paid, ofRow, ofAll}
 use Rattle.history.specs.Continuation.{owedSince}
 use Rattle.history.proofs.Opened.{openedHistory}
 
@@ -66,7 +66,7 @@ closing kind room = close (record { message = 2 ∷ 0 ∷ kind ∷ 0 ∷ []; buf
 -- ---- rows
 
 zeros : List ℕ
-zeros = replicate 4096 0
+zeros = replicate 8192 0
 
 -- account 1 has lent account 2 40,000 in security 0
 held : List ℕ
@@ -120,7 +120,7 @@ rows =
     ∷  -- class
     row weekdays caseTables 20230404 0 zeros (sent 1 1 2 0 2 0 200000 (tagLine 20230315) 35) 6
     ∷  -- code
-    row weekdays caseTables 20230404 0 zeros (sent 1 1 2 0 0 7 200000 (tagLine 20230315) 35) 6
+    row weekdays caseTables 20230404 0 zeros (sent 1 1 2 0 0 13 200000 (tagLine 20230315) 35) 6
     ∷  -- no par
     row weekdays caseTables 20230404 0 zeros (sent 1 1 2 0 0 0 0 (tagLine 20230315) 35) 6
     ∷  -- par
@@ -193,12 +193,12 @@ rows =
 
 -- an accepted opening sets the count and all balances to zero; a refused one returns day 20000101 and count 0 and leaves the balances
 sevens : List ℕ
-sevens = replicate 4096 7
+sevens = replicate 8192 7
 
 opening : ℕ → ℕ → ℕ → ℕ → Bool
 opening day number returned balance =
     let o = opened weekdays caseTables sevens day in
-    eqb (o .number) number && eqb (o .book .day) returned && eqb (o .book .count) 0 && all (λ w. eqb w balance) (o .balances) && eqb (length (o .balances)) 4096
+    eqb (o .number) number && eqb (o .book .day) returned && eqb (o .book .count) 0 && all (λ w. eqb w balance) (o .balances) && eqb (length (o .balances)) 8192
 
 openings : Bool
 openings = opening 20230404 0 20230404 0 && opening 20230401 4 20000101 7 && opening 20391230 4 20000101 7
@@ -290,10 +290,10 @@ interimHistory : Bool
 interimHistory =
     let r = runFrom weekdays threeRows (opened weekdays threeRows sevens 20231207) interimCalls in
     sameNumbers (counted (r .answers)) (0 ∷ 2 ∷ 0 ∷ 3 ∷ [])
-    && eqb (paid ofInterest (λ row. true) (recordsIn (r .answers)) senderToReceiver) 250000
-    && eqb (owed weekdays threeRows ofInterest (λ row. true) (entries 20231207 interimCalls) senderToReceiver) 250000
-    && eqb (owed weekdays threeRows ofInterest (eqb 0) (entries 20231207 interimCalls) senderToReceiver) 50000
-    && eqb (owed weekdays threeRows ofInterest (eqb 2) (entries 20231207 interimCalls) senderToReceiver) 100000
+    && eqb (paid ofInterest ofAll (recordsIn (r .answers)) senderToReceiver) 250000
+    && eqb (owed weekdays threeRows ofInterest ofAll (entries 20231207 interimCalls) senderToReceiver) 250000
+    && eqb (owed weekdays threeRows ofInterest (ofRow 0) (entries 20231207 interimCalls) senderToReceiver) 50000
+    && eqb (owed weekdays threeRows ofInterest (ofRow 2) (entries 20231207 interimCalls) senderToReceiver) 100000
 
 -- ---- rows that wait
 
@@ -306,10 +306,10 @@ delayHistory : Bool
 delayHistory =
     let r = runFrom weekdays delays (opened weekdays delays sevens 20230705) delayCalls in
     sameNumbers (counted (r .answers)) (0 ∷ 3 ∷ 0 ∷ 1 ∷ [])
-    && eqb (paid ofInterest (λ row. true) (recordsIn (r .answers)) senderToReceiver) 200000
-    && eqb (owed weekdays delays ofInterest (λ row. true) (entries 20230705 delayCalls) senderToReceiver) 200000
-    && eqb (owed weekdays delays ofInterest (eqb 2) (entries 20230705 delayCalls) senderToReceiver) 50000
-    && eqb (owed weekdays delays ofInterest (eqb 3) (entries 20230705 delayCalls) senderToReceiver) 50000
+    && eqb (paid ofInterest ofAll (recordsIn (r .answers)) senderToReceiver) 200000
+    && eqb (owed weekdays delays ofInterest ofAll (entries 20230705 delayCalls) senderToReceiver) 200000
+    && eqb (owed weekdays delays ofInterest (ofRow 2) (entries 20230705 delayCalls) senderToReceiver) 50000
+    && eqb (owed weekdays delays ofInterest (ofRow 3) (entries 20230705 delayCalls) senderToReceiver) 50000
 
 -- ---- tables that change
 
@@ -340,10 +340,10 @@ periods =
     let r = runFrom weekdays apartTables (opened weekdays apartTables sevens 20230331) firstCalls in
     let later = run weekdays laterTables (r .book) (r .balances) laterCalls in
     sameNumbers (answered (later .answers)) laterAnswers && sameNumbers (later .balances) (set zeros 18 40000)
-    && eqb (paid ofInterest (λ row. true) (recordsIn (r .answers)) borrowerToLender) 20000
-    && eqb (paid ofInterest (λ row. true) (recordsIn (later .answers)) borrowerToLender) 40000
+    && eqb (paid ofInterest ofAll (recordsIn (r .answers)) borrowerToLender) 20000
+    && eqb (paid ofInterest ofAll (recordsIn (later .answers)) borrowerToLender) 40000
     && eqb
-    (owedSince weekdays laterTables ofInterest (λ row. true) (entries 20230331 firstCalls) (entries 20230403 laterCalls) borrowerToLender) 40000
+    (owedSince weekdays laterTables ofInterest ofAll (entries 20230331 firstCalls) (entries 20230403 laterCalls) borrowerToLender) 40000
 
 -- ---- the theorems
 

@@ -46,7 +46,7 @@ module _ (calendar tables : List ℕ) where
   unfolding keep increases decreases increasedBy decreasedBy balancesOf parLent sum
   covered-step t (transfer a) zero h e =
       let k = taken calendar tables (bookOf t) (balancesOf t) a (e refl) in
-      covered-transfer (increases (t .entries)) (decreases (t .entries)) h (transferOf (a .message)) (k .within) (k .enough)
+      covered-transfer (increases (t .entries)) (decreases (t .entries)) h (transferOf (a .message)) (k .fields .code) (k .within) (k .enough)
   covered-step t (close a) zero h e = λ p. omega (arith, h p)
   covered-step t call (suc n) h e = h
 
@@ -55,7 +55,7 @@ module _ (calendar tables : List ℕ) where
   unfolding resultFor nextBalances keep increases decreases increasedBy decreasedBy balancesOf parLent sum
   balances-step t (transfer a) zero h e =
       let k = taken calendar tables (bookOf t) (balancesOf t) a (e refl) in
-      balances-transfer (increases (t .entries)) (decreases (t .entries)) h (transferOf (a .message)) (k .within) (k .enough)
+      balances-transfer (increases (t .entries)) (decreases (t .entries)) h (transferOf (a .message)) (k .fields .code) (k .within) (k .enough)
   balances-step t (close a) zero h e =
       let k : (p : Position) → parLent (t .entries) p ≡ parLent (record { day = t .day; call = close a } ∷ t .entries) p = λ p. simp zero-add in
       ap layout (fun-ext k)

@@ -3,7 +3,7 @@ use mathlib.Core.Path.{_≡_, refl, sym, ap, _∙_, subst₂}
 use mathlib.Core.Logic.{_≢_}
 use mathlib.Core.Bool.{Bool, true}
 use mathlib.Core.List.{List, [], _∷_, _++_}
-use Prim.Native.Nat.{ℕ, zero, suc, _+_, _*_, _≤_}
+use Prim.Native.Nat.{ℕ, zero, suc, _+_, _*_, _≤_, _<_}
 use native.Mathlib.Nat.{zero-add}
 use native.Mathlib.Omega.{arith}
 use lib.Dec.{eqb}
@@ -11,7 +11,7 @@ use lib.ListN.{length, getD, replicate, length-replicate, getD-replicate}
 use Rattle.lists.specs.Sums.{sum, sum-append}
 use Rattle.records.specs.declared.ReadClaim.{ReadClaim}
 use Rattle.records.specs.MessageRecords.{transferOf}
-use Rattle.securities.specs.Securities.{goodTables}
+use Rattle.securities.specs.Securities.{Row, goodTables}
 use Rattle.securities.proofs.Sound.{sound-rows}
 use Rattle.claims.specs.Amounts.{Part, Parties}
 use Rattle.claims.specs.Fails.{messageTag, transferParties}
@@ -31,7 +31,7 @@ use Rattle.history.specs.Causes.{numberFor, openingNumber}
 use Rattle.history.specs.Results.{Run, run, openedFor, opened, runFrom}
 use Rattle.history.specs.Ledger.{Entry, Ledger, started, transfers, increases, decreases, parLent, bookOf, balancesOf, keep, numberOn, answerFor, judged}
 use Rattle.history.specs.Owed.{amounts, lentBy, owedBy, owed}
-use Rattle.history.specs.Statement.{recordsIn, paidIn, paid, AsFound, AllAsFound, AgreesWithLedger, EveryHistory}
+use Rattle.history.specs.Statement.{recordsIn, paidIn, paid, ofTypeAndRow, ofRow, ofAll, AsFound, AllAsFound, AgreesWithLedger, EveryHistory}
 use Rattle.history.proofs.Accepted.{accepted-iff, begun, taken, closed}
 use Rattle.history.proofs.Simulation.{Covered, Inside, inside-step, Follows, follows}
 use Rattle.history.proofs.Payments.{AreAccounts, accounts, pays, paid-claims, pays-transfer, pays-close, pays-outside, amounts-zero, loan}
@@ -55,7 +55,8 @@ module _ (calendar tables : List ℕ) where
       let k = closed calendar tables book balances a e in
       let s = k .sound .tables-sound in
       fit-close calendar tables (kept s) (book .day) balances
-      (λ i l b hi hl hb. rw (balance-word balances i l b hl hb) (k .sound .balances-sound .small _ (record { security = hi; lender = hl; borrower = hb })))
+      (λ h i l b hh hi hl hb. rw (balance-word balances h i l b hl hb)
+      (k .sound .balances-sound .small _ (record { tracking = hh; security = hi; lender = hl; borrower = hb })))
       (λ i h. sound-rows calendar tables i (s .table-rules) h)
 
   -- ---- the counted records of every answer read
@@ -104,60 +105,64 @@ module _ (calendar tables : List ℕ) where
 
   -- ---- the records pay what the history owes
 
-  module _ (part : Part) (rowTest : ℕ → Bool) (x : Parties) where
-    loan-range : AreAccounts x → InRange (loan x)
+  module _ (part : Part) (claimTest : ℕ → ℕ → Bool) (x : Parties) where
+    loan-range : (tracking : ℕ) → tracking < 2 → AreAccounts x → InRange (loan tracking x)
     unfolding loan
-    loan-range k = record { security = k .security; lender = k .payee; borrower = k .payer }
+    loan-range tracking h k = record { tracking = h; security = k .security; lender = k .payee; borrower = k .payer }
 
     -- who is no account of the book was lent nothing
-    nothing-lent : (es : List Entry) → Inside es → ¬ AreAccounts x → lentBy es x ≡ 0
+    nothing-lent : (tracking : ℕ) (es : List Entry) → Inside es → ¬ AreAccounts x → lentBy tracking es x ≡ 0
     unfolding lentBy parLent
-    nothing-lent es h d = go (increases es (record { security = x .security; lender = x .payee; borrower = x .payer })) refl
+    nothing-lent tracking es h d = go (increases es (record { tracking = tracking; security = x .security; lender = x .payee; borrower = x .payer })) refl
       where
-        go : (n : ℕ) → increases es (record { security = x .security; lender = x .payee; borrower = x .payer }) ≡ n → lentBy es x ≡ 0
+        go : (n : ℕ) → increases es (record { tracking = tracking; security = x .security; lender = x .payee; borrower = x .payer }) ≡ n
+            → lentBy tracking es x ≡ 0
         go zero e = omega arith
         go (suc n) e =
-            let k = h (record { security = x .security; lender = x .payee; borrower = x .payer }) (omega arith) in
+            let k = h (record { tracking = tracking; security = x .security; lender = x .payee; borrower = x .payer }) (omega arith) in
             absurd (d (record { security = k .security; payee = k .lender; payer = k .borrower }))
 
     -- the claims of a call pay what it adds
     pays-call : (t : Ledger) (call : Call) → Inside (t .entries)
-        → pays calendar tables part rowTest x (claimsOf calendar tables (bookOf t) (balancesOf t) call)
-        ≡ owedBy calendar tables part rowTest (t .entries) (t .day) call x
+        → pays calendar tables part claimTest x (claimsOf calendar tables (bookOf t) (balancesOf t) call)
+        ≡ owedBy calendar tables part claimTest (t .entries) (t .day) call x
     unfolding claimsOf owedBy bookOf balancesOf
-    pays-call t (transfer a) h = pays-transfer calendar tables part rowTest x (t .day) _ (a .message)
+    pays-call t (transfer a) h = pays-transfer calendar tables part claimTest x (t .day) _ (a .message)
     pays-call t (close a) h = go (accounts x)
       where
-        go : Dec (AreAccounts x) → pays calendar tables part rowTest x (closeClaims calendar tables (t .day) (layout (parLent (t .entries))))
-            ≡ amounts part rowTest (lentBy (t .entries) x) (crossed calendar tables (t .day) (x .security))
+        rows : List Row
+        rows = crossed calendar tables (t .day) (x .security)
+
+        go : Dec (AreAccounts x) → pays calendar tables part claimTest x (closeClaims calendar tables (t .day) (layout (parLent (t .entries))))
+            ≡ amounts part (claimTest 3) (lentBy 0 (t .entries) x) rows + amounts part (claimTest 4) (lentBy 1 (t .entries) x) rows
         go (yes r) =
-            pays-close calendar tables part rowTest x (t .day) (layout (parLent (t .entries))) r
-            ∙ (unfold lentBy loan in rw (read (parLent (t .entries)) (loan x) (loan-range r)))
+            pays-close calendar tables part claimTest x (t .day) (layout (parLent (t .entries))) r
+            ∙ (unfold lentBy loan in rw (read (parLent (t .entries)) (loan 0 x) (loan-range 0 (omega arith) r), read (parLent (t .entries)) (loan 1 x) (loan-range 1 (omega arith) r)))
         go (no d) =
-            pays-outside calendar tables part rowTest x (t .day) (layout (parLent (t .entries))) d
-            ∙ sym (rw (nothing-lent (t .entries) h d) (amounts-zero part rowTest _))
+            pays-outside calendar tables part claimTest x (t .day) (layout (parLent (t .entries))) d
+            ∙ sym (rw (nothing-lent 0 (t .entries) h d, nothing-lent 1 (t .entries) h d, amounts-zero part (claimTest 3) rows, amounts-zero part (claimTest 4) rows))
 
     -- so do the records of its answer; a refused call writes none and is not kept
     paid-step : (t : Ledger) (call : Call) (n : ℕ) → Inside (t .entries) → numberFor calendar tables (bookOf t) (balancesOf t) call ≡ n
         → (let a = answerFor n calendar tables t call in
-        paid part rowTest (readings (a .claims) (a .buffer)) x + owed calendar tables part rowTest (t .entries) x)
-        ≡ owed calendar tables part rowTest (keep n calendar t call .entries) x
+        paid part claimTest (readings (a .claims) (a .buffer)) x + owed calendar tables part claimTest (t .entries) x)
+        ≡ owed calendar tables part claimTest (keep n calendar t call .entries) x
     unfolding answerFor keep owed
     paid-step t call zero h e =
         rw (
           readings-written (claimsOf calendar tables (bookOf t) (balancesOf t) call) (bufferOf call) (fit-claims (bookOf t) (balancesOf t) call e),
-          paid-claims calendar tables part rowTest x (claimsOf calendar tables (bookOf t) (balancesOf t) call),
+          paid-claims calendar tables part claimTest x (claimsOf calendar tables (bookOf t) (balancesOf t) call),
           pays-call t call h,
         )
     paid-step t call (suc n) h e = unfold readings paid sum in zero-add _
 
-    paid-append : (rs ss : List ReadClaim) → paid part rowTest (rs ++ ss) x ≡ paid part rowTest rs x + paid part rowTest ss x
+    paid-append : (rs ss : List ReadClaim) → paid part claimTest (rs ++ ss) x ≡ paid part claimTest rs x + paid part claimTest ss x
     unfolding paid
-    paid-append rs ss = sum-append (paidIn part rowTest x) rs ss
+    paid-append rs ss = sum-append (paidIn part claimTest x) rs ss
 
     pub paid-all : (calls : List Call) (t : Ledger) → Inside (t .entries)
-        → paid part rowTest (recordsIn (judged calendar tables t calls .answers)) x + owed calendar tables part rowTest (t .entries) x
-        ≡ owed calendar tables part rowTest (judged calendar tables t calls .ledger .entries) x
+        → paid part claimTest (recordsIn (judged calendar tables t calls .answers)) x + owed calendar tables part claimTest (t .entries) x
+        ≡ owed calendar tables part claimTest (judged calendar tables t calls .ledger .entries) x
     unfolding judged recordsIn numberOn
     paid-all [] t h = unfold paid sum in zero-add _
     paid-all (call ∷ calls) t h =
@@ -171,20 +176,20 @@ module _ (calendar tables : List ℕ) where
           paid-all calls next (inside-step calendar tables t call n h (λ z. z)),
         )
 
-  nothing-owed : (part : Part) (rowTest : ℕ → Bool) (day : ℕ) (x : Parties) (n : ℕ)
-      → n + owed calendar tables part rowTest (started day .entries) x ≡ n
+  nothing-owed : (part : Part) (claimTest : ℕ → ℕ → Bool) (day : ℕ) (x : Parties) (n : ℕ)
+      → n + owed calendar tables part claimTest (started day .entries) x ≡ n
   unfolding started owed
-  nothing-owed part rowTest day x n = omega arith
+  nothing-owed part claimTest day x n = omega arith
 
   pub started-inside : (day : ℕ) → Inside (started day .entries)
   unfolding started increases sum
   started-inside day p k = absurd (omega arith)
 
-  paid-from : (part : Part) (rowTest : ℕ → Bool) (x : Parties) (day : ℕ) (calls : List Call)
-      → paid part rowTest (recordsIn (judged calendar tables (started day) calls .answers)) x
-      ≡ owed calendar tables part rowTest (judged calendar tables (started day) calls .ledger .entries) x
-  paid-from part rowTest x day calls =
-      sym (nothing-owed part rowTest day x _) ∙ paid-all part rowTest x calls (started day) (started-inside day)
+  paid-from : (part : Part) (claimTest : ℕ → ℕ → Bool) (x : Parties) (day : ℕ) (calls : List Call)
+      → paid part claimTest (recordsIn (judged calendar tables (started day) calls .answers)) x
+      ≡ owed calendar tables part claimTest (judged calendar tables (started day) calls .ledger .entries) x
+  paid-from part claimTest x day calls =
+      sym (nothing-owed part claimTest day x _) ∙ paid-all part claimTest x calls (started day) (started-inside day)
 
   -- ---- from the opening on
 
@@ -192,11 +197,11 @@ module _ (calendar tables : List ℕ) where
   unfolding bookOf started transfers sum
   started-book day = refl
 
-  pub started-balances : (day : ℕ) → replicate 4096 0 ≡ balancesOf (started day)
+  pub started-balances : (day : ℕ) → replicate 8192 0 ≡ balancesOf (started day)
   unfolding balancesOf started
   started-balances day =
-      is-layout (parLent []) (replicate 4096 0) (length-replicate {A = ℕ} 4096 0)
-      (λ p r. unfold balanceAt parLent increases decreases sum in getD-replicate 4096 (word p) 0 0 (word-bound p r))
+      is-layout (parLent []) (replicate 8192 0) (length-replicate {A = ℕ} 8192 0)
+      (λ p r. unfold balanceAt parLent increases decreases sum in getD-replicate 8192 (word p) 0 0 (word-bound p r))
 
   pub started-covered : (day : ℕ) → Covered (started day .entries)
   unfolding started increases decreases sum
@@ -209,11 +214,11 @@ module _ (calendar tables : List ℕ) where
 
   -- the word of a position holds its par
   pub stored-lent : (balances : List ℕ) (es : List Entry) (p : Position) → InRange p → balances ≡ layout (parLent es) → decreases es p ≤ increases es p
-      → getD balances (256 * p .security + 16 * p .lender + p .borrower) 0 + decreases es p ≡ increases es p
+      → getD balances (4096 * p .tracking + 256 * p .security + 16 * p .lender + p .borrower) 0 + decreases es p ≡ increases es p
   unfolding parLent
   stored-lent balances es p k e h =
-      let w : getD balances (256 * p .security + 16 * p .lender + p .borrower) 0 ≡ parLent es p =
-      ap (λ (l : List ℕ). getD l (256 * p .security + 16 * p .lender + p .borrower) 0) e ∙ (unfold balanceAt word in read (parLent es) p k) in
+      let w : getD balances (4096 * p .tracking + 256 * p .security + 16 * p .lender + p .borrower) 0 ≡ parLent es p =
+      ap (λ (l : List ℕ). getD l (4096 * p .tracking + 256 * p .security + 16 * p .lender + p .borrower) 0) e ∙ (unfold balanceAt word in read (parLent es) p k) in
       omega arith
 
   followed : goodTables calendar tables ≡ true → (day : ℕ) (calls : List Call) (r : Run) → Follows calendar tables r (judged calendar tables (started day) calls)
@@ -231,8 +236,9 @@ module _ (calendar tables : List ℕ) where
         lent = λ p k. stored-lent (r .balances) (t .entries) p k (f .balances) (f .covered p);
         lent-before = f .before;
         readable = rw (f .answers) (read-all calls (started day));
-        row-payments = λ part x row. rw (f .answers) (paid-from part (eqb row) x day calls);
-        payments = λ part x. rw (f .answers) (paid-from part (λ row. true) x day calls);
+        type-payments = λ part x claimType row. rw (f .answers) (paid-from part (ofTypeAndRow claimType row) x day calls);
+        row-payments = λ part x row. rw (f .answers) (paid-from part (ofRow row) x day calls);
+        payments = λ part x. rw (f .answers) (paid-from part ofAll x day calls);
         crossed-once = λ row. passed calendar tables day row calls (started day) (passed-started calendar tables day row) .crossed-once;
         dates-once = λ d tag h.
             let b = sound-rows calendar tables (d .security) sound h .beneficiaries in

@@ -27,11 +27,11 @@ recordCauses kind message = cause 5 (not (reads kind message)) ∷ []
 abbrev pub largestPar : ℕ
 largestPar = 100000000
 
--- Account, security (or unused), class, code over 6 or par out of range; sender = receiver: number 6.
+-- Account, security (or unused), class, code over 12 or par out of range; sender = receiver: number 6.
 unfoldable pub outOfRange : List ℕ → Transfer → Bool
 outOfRange tables t =
     leb 16 (t .sender) || leb 16 (t .receiver) || leb 16 (t .security) || eqb (typeOf (securityOf tables (t .security))) 0
-    || ltb 1 (t .class) || ltb 6 (t .code) || eqb (t .par) 0 || ltb largestPar (t .par) || eqb (t .sender) (t .receiver)
+    || ltb 1 (t .class) || ltb 12 (t .code) || eqb (t .par) 0 || ltb largestPar (t .par) || eqb (t .sender) (t .receiver)
 
 unfoldable pub fieldCauses : List ℕ → Transfer → List Cause
 fieldCauses tables t = cause 6 (outOfRange tables t) ∷ []

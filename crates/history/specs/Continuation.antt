@@ -1,7 +1,8 @@
 -- A history that goes on, in words. Take any ledger that is sound: the decreases it has accepted are nowhere more than the increases,
 -- also before each kept call, and only positions of the book were increased. From its book and balances on, with any calendar and tables,
 -- every answer and the book and balances after the list are those of the ledger that goes on. The par between two accounts counts the
--- calls before and the calls since. What the records from then on pay is what the calls from then on owe, for each row and for all; a
+-- calls before and the calls since. What the records from then on pay is what the calls from then on owe, for each claim type, each row
+-- and all; a
 -- close since then is on the par of all calls before it, those before the change too. Every Record Date passed since then is crossed
 -- exactly once. The ledger stays sound, so calendar and tables may change any number of times: a security has 16 rows, so a book that
 -- lives for years gets new tables. `owed` and `CrossedOnce` of a whole history speak of one calendar and tables; over such a change it is
@@ -21,13 +22,13 @@ use Rattle.history.specs.Calls.{Call}
 use Rattle.history.specs.Results.{Run, run, opened}
 use Rattle.history.specs.Ledger.{Entry, Ledger, started, increases, decreases, bookOf, balancesOf, Judged, judged}
 use Rattle.history.specs.Owed.{owedBy}
-use Rattle.history.specs.Statement.{recordsIn, paid, BalancedBefore, AllAsFound, CrossedOnce}
+use Rattle.history.specs.Statement.{recordsIn, paid, ofTypeAndRow, ofRow, ofAll, BalancedBefore, AllAsFound, CrossedOnce}
 
 -- What the entries since then owe, behind those before: a close on the par lent by all entries before it.
-unfoldable pub owedSince : List ℕ → List ℕ → Part → (ℕ → Bool) → List Entry → List Entry → Parties → ℕ
-owedSince calendar tables part rowTest before [] x = 0
-owedSince calendar tables part rowTest before (e ∷ since) x =
-    owedBy calendar tables part rowTest (since ++ before) (e .day) (e .call) x + owedSince calendar tables part rowTest before since x
+unfoldable pub owedSince : List ℕ → List ℕ → Part → (ℕ → ℕ → Bool) → List Entry → List Entry → Parties → ℕ
+owedSince calendar tables part claimTest before [] x = 0
+owedSince calendar tables part claimTest before (e ∷ since) x =
+    owedBy calendar tables part claimTest (since ++ before) (e .day) (e .call) x + owedSince calendar tables part claimTest before since x
 
 -- A sound ledger: accepted decreases are at most the accepted increases, also before each kept call, and only positions of the book were
 -- increased.
@@ -48,13 +49,16 @@ pub record GoesOn (calendar tables : List ℕ) (before : Ledger) (calls : List C
   pub book : r .book ≡ bookOf (j .ledger)
   pub balances : r .balances ≡ balancesOf (j .ledger)
   pub lent : (p : Position) → InRange p
-      → getD (r .balances) (256 * p .security + 16 * p .lender + p .borrower) 0 + decreases (j .ledger .entries) p ≡ increases (j .ledger .entries) p
-  -- The counted records read, and add up to what the entries since then owe: for each row, and for all rows together.
+      → getD (r .balances) (4096 * p .tracking + 256 * p .security + 16 * p .lender + p .borrower) 0 + decreases (j .ledger .entries) p ≡ increases (j .ledger .entries) p
+  -- The counted records read, and add up to what the entries since then owe: for each claim type on each row, for each row, and for all.
   pub readable : AllRead (recordsIn (r .answers))
+  pub type-payments : (part : Part) (x : Parties) (claimType row : ℕ)
+      → paid part (ofTypeAndRow claimType row) (recordsIn (r .answers)) x
+      ≡ owedSince calendar tables part (ofTypeAndRow claimType row) (before .entries) since x
   pub row-payments : (part : Part) (x : Parties) (row : ℕ)
-      → paid part (eqb row) (recordsIn (r .answers)) x ≡ owedSince calendar tables part (eqb row) (before .entries) since x
+      → paid part (ofRow row) (recordsIn (r .answers)) x ≡ owedSince calendar tables part (ofRow row) (before .entries) since x
   pub payments : (part : Part) (x : Parties)
-      → paid part (λ row. true) (recordsIn (r .answers)) x ≡ owedSince calendar tables part (λ row. true) (before .entries) since x
+      → paid part ofAll (recordsIn (r .answers)) x ≡ owedSince calendar tables part ofAll (before .entries) since x
   -- The entries since then cross a Record Date once if it lies after the day of the ledger before them and on or before the last day, and
   -- never otherwise.
   pub crossed-once : (row : Row) → CrossedOnce calendar (before .day) (record { day = j .ledger .day; entries = since }) row

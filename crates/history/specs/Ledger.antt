@@ -2,7 +2,7 @@
 -- stores no balance: the par on loan is added up anew from the accepted messages' own fields.
 use mathlib.Core.Bool.{Bool, cond, _&&_, _||_}
 use mathlib.Core.List.{List, [], _∷_}
-use Prim.Native.Nat.{ℕ, zero, suc, _-_}
+use Prim.Native.Nat.{ℕ, zero, suc, _+_, _-_, _*_}
 use lib.Dec.{eqb}
 use lib.ListN.{length}
 use Rattle.lists.specs.Sums.{sum}
@@ -31,17 +31,18 @@ started day = record { day = day; entries = [] }
 
 -- ---- the par on loan
 
--- An increase from the lender to the borrower: code 1, 4 or 5, sent by the lender, received by the borrower, in the security.
+-- An increase from the lender to the borrower: code 1, 4 or 5 on loan, 7, 10 or 11 on repo, sent by the lender, received by the
+-- borrower, in the security.
 unfoldable pub isIncrease : Transfer → Position → Bool
 isIncrease t p =
-    (eqb (t .code) 1 || eqb (t .code) 4 || eqb (t .code) 5)
-    && (eqb (t .security) (p .security) && eqb (t .sender) (p .lender) && eqb (t .receiver) (p .borrower))
+    (eqb (t .security) (p .security) && eqb (t .sender) (p .lender) && eqb (t .receiver) (p .borrower))
+    && (eqb (t .code) (6 * p .tracking + 1) || eqb (t .code) (6 * p .tracking + 4) || eqb (t .code) (6 * p .tracking + 5))
 
--- A decrease: code 2, 3 or 6, sent by the borrower, received by the lender, in the security.
+-- A decrease: code 2, 3 or 6 on loan, 8, 9 or 12 on repo, sent by the borrower, received by the lender, in the security.
 unfoldable pub isDecrease : Transfer → Position → Bool
 isDecrease t p =
-    (eqb (t .code) 2 || eqb (t .code) 3 || eqb (t .code) 6)
-    && (eqb (t .security) (p .security) && eqb (t .receiver) (p .lender) && eqb (t .sender) (p .borrower))
+    (eqb (t .security) (p .security) && eqb (t .receiver) (p .lender) && eqb (t .sender) (p .borrower))
+    && (eqb (t .code) (6 * p .tracking + 2) || eqb (t .code) (6 * p .tracking + 3) || eqb (t .code) (6 * p .tracking + 6))
 
 unfoldable pub increasedBy : Position → Call → ℕ
 increasedBy p (transfer a) = cond (isIncrease (transferOf (a .message)) p) (transferOf (a .message) .par) 0

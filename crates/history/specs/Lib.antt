@@ -6,3 +6,4 @@ pub mod Owed
 pub mod Statement
 pub mod Continuation
 pub mod ByValue
+pub mod Apart

@@ -7,7 +7,7 @@ use Rattle.lists.specs.Sums.{sum}
 use Rattle.records.specs.MessageRecords.{transferOf}
 use Rattle.securities.specs.Securities.{Row}
 use Rattle.tags.specs.ContractDateTag.{tagged}
-use Rattle.claims.specs.Amounts.{Part, amount, Parties}
+use Rattle.claims.specs.Amounts.{Part, amount, failType, interimType, lendingType, repoType, Parties}
 use Rattle.claims.specs.Fails.{messageTag, eligible, interim}
 use Rattle.claims.specs.Close.{crossed}
 use Rattle.history.specs.Calls.{Call, transfer, close}
@@ -27,23 +27,24 @@ isSent m x =
 unfoldable pub isFailed : List ℕ → Parties → Bool
 isFailed m x = tagged (messageTag m) && isSent m x
 
--- What the payee has lent the payer.
-unfoldable pub lentBy : List Entry → Parties → ℕ
-lentBy es x = parLent es (record { security = x .security; lender = x .payee; borrower = x .payer })
+-- What the payee has lent the payer, on loan (tracking 0) or on repo (tracking 1).
+unfoldable pub lentBy : ℕ → List Entry → Parties → ℕ
+lentBy tracking es x = parLent es (record { tracking = tracking; security = x .security; lender = x .payee; borrower = x .payer })
 
--- What a call that was accepted on a day, after the entries before it, adds: a failed transfer its eligible dates on its own par, a
--- transfer with code 0 its interim dates (document 02, card 1) on its own par, a close the rows that it crosses on the par lent before
--- it.
-unfoldable pub owedBy : List ℕ → List ℕ → Part → (ℕ → Bool) → List Entry → ℕ → Call → Parties → ℕ
-owedBy calendar tables part rowTest before day (transfer a) x =
+-- What a call that was accepted on a day, after the entries before it, adds in claims whose type and row number pass a test: a failed
+-- transfer its eligible dates on its own par, a transfer with code 0 its interim dates (document 02, card 1) on its own par, a close the
+-- rows that it crosses on the par on loan before it, and again on the par on repo (card 3).
+unfoldable pub owedBy : List ℕ → List ℕ → Part → (ℕ → ℕ → Bool) → List Entry → ℕ → Call → Parties → ℕ
+owedBy calendar tables part claimTest before day (transfer a) x =
     let t = transferOf (a .message) in
-    cond (isFailed (a .message) x) (amounts part rowTest (t .par) (eligible tables day t (messageTag (a .message)))) 0
-    + cond (isSent (a .message) x) (amounts part rowTest (t .par) (interim tables day t)) 0
-owedBy calendar tables part rowTest before day (close a) x =
-    amounts part rowTest (lentBy before x) (crossed calendar tables day (x .security))
+    cond (isFailed (a .message) x) (amounts part (claimTest failType) (t .par) (eligible tables day t (messageTag (a .message)))) 0
+    + cond (isSent (a .message) x) (amounts part (claimTest interimType) (t .par) (interim tables day t)) 0
+owedBy calendar tables part claimTest before day (close a) x =
+    let rows = crossed calendar tables day (x .security) in
+    amounts part (claimTest lendingType) (lentBy 0 before x) rows + amounts part (claimTest repoType) (lentBy 1 before x) rows
 
--- What a history owes from the payer to the payee in the security, in one part of the payments, over the rows that pass the test.
-unfoldable pub owed : List ℕ → List ℕ → Part → (ℕ → Bool) → List Entry → Parties → ℕ
-owed calendar tables part rowTest [] x = 0
-owed calendar tables part rowTest (e ∷ before) x =
-    owedBy calendar tables part rowTest before (e .day) (e .call) x + owed calendar tables part rowTest before x
+-- What a history owes from the payer to the payee in the security, in one part of the payments, in claims that pass the test.
+unfoldable pub owed : List ℕ → List ℕ → Part → (ℕ → ℕ → Bool) → List Entry → Parties → ℕ
+owed calendar tables part claimTest [] x = 0
+owed calendar tables part claimTest (e ∷ before) x =
+    owedBy calendar tables part claimTest before (e .day) (e .call) x + owed calendar tables part claimTest before x

@@ -2,8 +2,9 @@
 -- close calls, refused ones included; each call gets the book and balances that the last one left. Then every answer (number, book,
 -- claim count, claim buffer with the bytes behind the records as found) and the day, count and balances after the list are those of
 -- the ledger of accepted calls. For any two accounts and security the par lent and the accepted decreases together are the accepted
--- increases. The records, read back from the claim buffers, add up, for every payer, payee, security and row, and for every payer,
--- payee and security, to what the history owes, interest and principal apart. Every Record Date passed is crossed exactly once, no
+-- increases, on loan and on repo apart. The records, read back from the claim buffers, add up to what the history owes, interest and
+-- principal apart: for every payer, payee and security, for each row of it, and for each claim type on each row, so that claims on par
+-- on loan and claims on par on repo pay each their own. Every Record Date passed is crossed exactly once, no
 -- transfer claims a Beneficiary Date twice, be it as failed or as interim, its claims come in row order, no close claims a row twice,
 -- and a call is refused exactly when a cause of its table applies, and then changes nothing.
 use mathlib.Core.Path.{_≡_}
@@ -46,18 +47,28 @@ unfoldable pub centsIn : Part → Claim → ℕ
 centsIn ofInterest c = c .interest .0
 centsIn ofPrincipal c = c .principal .0
 
--- A record between the parties, on a row whose number passes the test.
-unfoldable pub counts : (ℕ → Bool) → Parties → Claim → Bool
-counts rowTest x c =
-    (eqb (c .security) (x .security) && eqb (c .payee) (x .payee) && eqb (c .payer) (x .payer)) && rowTest (c .row)
+-- A record between the parties whose type and row number pass the test.
+unfoldable pub counts : (ℕ → ℕ → Bool) → Parties → Claim → Bool
+counts claimTest x c =
+    (eqb (c .security) (x .security) && eqb (c .payee) (x .payee) && eqb (c .payer) (x .payer)) && claimTest (c .«claim_type») (c .row)
 
-unfoldable pub paidIn : Part → (ℕ → Bool) → Parties → ReadClaim → ℕ
-paidIn part rowTest x Refused = 0
-paidIn part rowTest x (Is c) = cond (counts rowTest x c) (centsIn part c) 0
+unfoldable pub paidIn : Part → (ℕ → ℕ → Bool) → Parties → ReadClaim → ℕ
+paidIn part claimTest x Refused = 0
+paidIn part claimTest x (Is c) = cond (counts claimTest x c) (centsIn part c) 0
 
 -- The cents of a part that the records have the payer pay the payee, settled and noticed together.
-unfoldable pub paid : Part → (ℕ → Bool) → List ReadClaim → Parties → ℕ
-paid part rowTest rs x = sum (paidIn part rowTest x) rs
+unfoldable pub paid : Part → (ℕ → ℕ → Bool) → List ReadClaim → Parties → ℕ
+paid part claimTest rs x = sum (paidIn part claimTest x) rs
+
+-- The claims of a type on a row, those on a row, and all.
+abbrev pub ofTypeAndRow : ℕ → ℕ → ℕ → ℕ → Bool
+ofTypeAndRow claimType row = λ t r. eqb claimType t && eqb row r
+
+abbrev pub ofRow : ℕ → ℕ → ℕ → Bool
+ofRow row = λ t r. eqb row r
+
+abbrev pub ofAll : ℕ → ℕ → Bool
+ofAll = λ t r. true
 
 -- ---- the par between two accounts
 
@@ -113,16 +124,19 @@ pub record AgreesWithLedger (calendar tables : List ℕ) (start : ℕ) (calls : 
   pub day : r .book .day ≡ j .ledger .day
   pub count : r .book .count ≡ transfers (j .ledger .entries)
   pub balances : r .balances ≡ balancesOf (j .ledger)
-  pub words : length (r .balances) ≡ 4096
+  pub words : length (r .balances) ≡ 8192
   pub lent : (p : Position) → InRange p
-      → getD (r .balances) (256 * p .security + 16 * p .lender + p .borrower) 0 + decreases (j .ledger .entries) p ≡ increases (j .ledger .entries) p
+      → getD (r .balances) (4096 * p .tracking + 256 * p .security + 16 * p .lender + p .borrower) 0 + decreases (j .ledger .entries) p ≡ increases (j .ledger .entries) p
   pub lent-before : BalancedBefore (j .ledger .entries)
-  -- The counted records read, and add up to what the history owes: for each row, and for all rows together.
+  -- The counted records read, and add up to what the history owes: for each claim type on each row, for each row, and for all together.
   pub readable : AllRead (recordsIn (r .answers))
+  pub type-payments : (part : Part) (x : Parties) (claimType row : ℕ)
+      → paid part (ofTypeAndRow claimType row) (recordsIn (r .answers)) x
+      ≡ owed calendar tables part (ofTypeAndRow claimType row) (j .ledger .entries) x
   pub row-payments : (part : Part) (x : Parties) (row : ℕ)
-      → paid part (eqb row) (recordsIn (r .answers)) x ≡ owed calendar tables part (eqb row) (j .ledger .entries) x
+      → paid part (ofRow row) (recordsIn (r .answers)) x ≡ owed calendar tables part (ofRow row) (j .ledger .entries) x
   pub payments : (part : Part) (x : Parties)
-      → paid part (λ row. true) (recordsIn (r .answers)) x ≡ owed calendar tables part (λ row. true) (j .ledger .entries) x
+      → paid part ofAll (recordsIn (r .answers)) x ≡ owed calendar tables part ofAll (j .ledger .entries) x
   pub crossed-once : (row : Row) → CrossedOnce calendar start (j .ledger) row
   -- The rows that the next transfer claims, failed or interim, rise in Beneficiary Date, so none is claimed twice.
   pub dates-once : (t : Transfer) (tag : Tag) → t .security < 16

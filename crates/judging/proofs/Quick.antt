@@ -57,21 +57,21 @@ good-of w (par ∷ pars) f =
     and-both (subst (λ (n : ℕ). goodBalance (position n) par ≡ true) (add-zero w) (f 0 (omega arith)))
     (good-of (suc w) pars (λ k h. subst (λ (n : ℕ). goodBalance (position n) (getD pars k 0) ≡ true) (add-suc w k ∙ sym (suc-add w k)) (f (suc k) (omega arith))))
 
-pub quick-good : (balances : List ℕ) → length balances ≡ 4096 → sum excessOf balances ≡ 0
-    → ownPars balances 256 ≡ 0 → badBalances balances ≡ false
+pub quick-good : (balances : List ℕ) → length balances ≡ 8192 → sum excessOf balances ≡ 0
+    → ownPars balances 512 ≡ 0 → badBalances balances ≡ false
 unfolding badBalances goodBalance position selfWord
 quick-good balances l e d = ap not (good-of 0 balances each)
   where
-    small : (k : ℕ) → k < 4096 → 16 * (k / 256) + k % 16 < 256
+    small : (k : ℕ) → k < 8192 → 16 * (k / 256) + k % 16 < 512
     small k h = omega arith
 
-    own : (k : ℕ) → k < 4096 → k / 16 % 16 ≡ k % 16 → getD balances k 0 ≡ 0
+    own : (k : ℕ) → k < 8192 → k / 16 % 16 ≡ k % 16 → getD balances k 0 ≡ 0
     own k h q =
         let z : getD balances (256 * ((16 * (k / 256) + k % 16) / 16) + 17 * ((16 * (k / 256) + k % 16) % 16)) 0 ≡ 0 =
-        own-at balances 256 d (16 * (k / 256) + k % 16) (small k h) in
+        own-at balances 512 d (16 * (k / 256) + k % 16) (small k h) in
         subst (λ (j : ℕ). getD balances j 0 ≡ 0) (own-place (k / 256) (k % 16) (omega arith) ∙ own-word k q) z
 
-    pick : (k : ℕ) → k < 4096 → (b : Bool) → eqb (k / 16 % 16) (k % 16) ≡ b → (not b || eqb (getD balances k 0) 0) ≡ true
+    pick : (k : ℕ) → k < 8192 → (b : Bool) → eqb (k / 16 % 16) (k % 16) ≡ b → (not b || eqb (getD balances k 0) 0) ≡ true
     pick k h true q = eq-eqb _ 0 (own k h (eqb-true _ _ q))
     pick k h false q = refl
 
@@ -83,7 +83,7 @@ quick-good balances l e d = ap not (good-of 0 balances each)
 -- ---- the loop over the diagonal
 
 pub record Owning (balances : List ℕ) (total i : ℕ) : Type 0 where
-  pub small : i ≤ 256
+  pub small : i ≤ 512
   pub is : total ≡ ownPars balances i
   pub bound : total ≤ 9000000000 * i
 
@@ -92,11 +92,11 @@ unfolding ownPars
 owning-start balances = record { small = omega arith; is = refl; bound = omega arith }
 
 -- where no balance is too large, the next of the diagonal adds little
-pub own-small : (balances : List ℕ) (i : ℕ) → length balances ≡ 4096 → sum excessOf balances ≡ 0 → i < 256
+pub own-small : (balances : List ℕ) (i : ℕ) → length balances ≡ 8192 → sum excessOf balances ≡ 0 → i < 512
     → getD balances (256 * (i / 16) + 17 * (i % 16)) 0 ≤ 9000000000
 own-small balances i l e h = excess-none _ (sum-at excessOf 0 balances e (256 * (i / 16) + 17 * (i % 16)) (omega (arith, l)))
 
-pub owning-step : {balances : List ℕ} {total i : ℕ} → Owning balances total i → i < 256
+pub owning-step : {balances : List ℕ} {total i : ℕ} → Owning balances total i → i < 512
     → getD balances (256 * (i / 16) + 17 * (i % 16)) 0 ≤ 9000000000
     → {t : ℕ} → t ≡ total + getD balances (256 * (i / 16) + 17 * (i % 16)) 0 → Owning balances t (i + 1)
 unfolding ownPars selfWord
@@ -107,7 +107,7 @@ owning-step {balances} {total} {i} k h m {t} e =
       bound = omega (arith, e, m, k .bound);
     }
 
-pub owning-end : {balances : List ℕ} {total i : ℕ} → Owning balances total i → 256 ≤ i → total ≡ ownPars balances 256
+pub owning-end : {balances : List ℕ} {total i : ℕ} → Owning balances total i → 512 ≤ i → total ≡ ownPars balances 512
 owning-end {balances} {total} {i} k h =
-    let e : i ≡ 256 = omega (arith, k .small) in
+    let e : i ≡ 512 = omega (arith, k .small) in
     subst (λ (n : ℕ). total ≡ ownPars balances n) e (k .is)

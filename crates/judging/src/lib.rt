@@ -15,7 +15,7 @@ const CALENDAR_WORDS: usize = 480;
 
 const TABLE_WORDS: usize = 1824;
 
-const BALANCE_WORDS: usize = 4096;
+const BALANCE_WORDS: usize = 8192;
 
 // The number 1, 2 or 3 that calendar, tables and balances meet, 0 where they meet none.
 fn table_number(calendar: &[u32], tables: &[u32], balances: &[u64]) -> u16
@@ -83,7 +83,7 @@ fn judge_balances(balances: &[u64]) -> bool
 
 // What balances have above the largest, added up.
 fn excesses(balances: &[u64]) -> u64
-    requires { ⌜ length (now balances) ≡ 4096 ⌝ }
+    requires { ⌜ length (now balances) ≡ 8192 ⌝ }
     ensures { λ r. ⌜ r ≡ sum excessOf (now (balances .entry)) ⌝ }
 {
     let mut total: u64 = 0;
@@ -98,12 +98,12 @@ fn excesses(balances: &[u64]) -> u64
 
 // What the accounts have lent themselves, added up; no balance is too large.
 fn own_pars(balances: &[u64]) -> u64
-    requires { ⌜ (length (now balances) ≡ 4096) × (sum excessOf (now balances) ≡ 0) ⌝ }
-    ensures { λ r. ⌜ r ≡ ownPars (now (balances .entry)) 256 ⌝ }
+    requires { ⌜ (length (now balances) ≡ 8192) × (sum excessOf (now balances) ≡ 0) ⌝ }
+    ensures { λ r. ⌜ r ≡ ownPars (now (balances .entry)) 512 ⌝ }
 {
     let mut total: u64 = 0;
     let mut n: usize = 0;
-    while n < 256 {
+    while n < 512 {
         total += balances[256 * (n / 16) + 17 * (n % 16)];
         n += 1;
     }
@@ -113,7 +113,7 @@ fn own_pars(balances: &[u64]) -> u64
 // Whether a balance is too large, or nonzero where an account would lend itself. Only where a quick test finds something are the words
 // judged one by one.
 fn bad_balances(balances: &[u64]) -> bool
-    requires { ⌜ length (now balances) ≡ 4096 ⌝ }
+    requires { ⌜ length (now balances) ≡ 8192 ⌝ }
     ensures { λ r. ⌜ r ≡ badBalances (now (balances .entry)) ⌝ }
 {
     if excesses(balances) != 0 {

@@ -6,7 +6,7 @@ ghost use Prim.Native.Nat.{_≤_, _<_};
 ghost use lib.ListN.{length};
 ghost use Rattle.lists.specs.All.{all};
 ghost use Rattle.securities.specs.Securities.{rowOf};
-ghost use Rattle.claims.specs.Close.{loanParties, loanClaim, rowClaims, closeClaims};
+ghost use Rattle.claims.specs.Close.{loanParties, loanClaim, trackingClaims, rowClaims, closeClaims};
 ghost use Rattle.claims.specs.Passes.{Free, Passed};
 ghost use Rattle.claims.specs.Turns.{Ready, Sound, SoundClose, lenderClaims, turnClaims, securityClaims, small};
 use amounts::LENDING;
@@ -22,6 +22,7 @@ fn pass_loan(
     calendar: &[u32],
     tables: &[u32],
     day: u32,
+    claim_type: u8,
     security: u8,
     lender: u8,
     borrower: u8,
@@ -29,8 +30,8 @@ fn pass_loan(
     index: u8,
     row: &[u32],
 ) -> usize
-    requires { ⌜ Ready (now calendar) (now tables) (now row) security × (borrower < 16) × (par ≤ 9000000000) × Free write (now buffer) n (loanClaim (now calendar) (now tables) day (rowOf index (now row)) (loanParties security lender borrower) par) ⌝ }
-    ensures { λ r. ⌜ Passed write (now (buffer .entry)) (now (buffer .exit)) n r (loanClaim (now (calendar .entry)) (now (tables .entry)) day (rowOf index (now (row .entry))) (loanParties security lender borrower) par) ⌝ }
+    requires { ⌜ Ready (now calendar) (now tables) (now row) security × (borrower < 16) × (par ≤ 9000000000) × Free write (now buffer) n (loanClaim (now calendar) (now tables) day «claim_type» (rowOf index (now row)) (loanParties security lender borrower) par) ⌝ }
+    ensures { λ r. ⌜ Passed write (now (buffer .entry)) (now (buffer .exit)) n r (loanClaim (now (calendar .entry)) (now (tables .entry)) day «claim_type» (rowOf index (now (row .entry))) (loanParties security lender borrower) par) ⌝ }
 {
     if par == 0 {
         return n;
@@ -50,7 +51,7 @@ fn pass_loan(
             lender,
             borrower,
             Dollars(par),
-            LENDING,
+            claim_type,
             index,
             row,
         ),
@@ -66,14 +67,15 @@ fn pass_lender(
     calendar: &[u32],
     tables: &[u32],
     day: u32,
+    claim_type: u8,
     security: u8,
     lender: u8,
     lent: &[u64],
     index: u8,
     row: &[u32],
 ) -> usize
-    requires { ⌜ Ready (now calendar) (now tables) (now row) security × (length (now lent) ≡ 16) × (all small (now lent) ≡ true) × Free write (now buffer) n (lenderClaims (now calendar) (now tables) day (rowOf index (now row)) security lender (now lent)) ⌝ }
-    ensures { λ r. ⌜ Passed write (now (buffer .entry)) (now (buffer .exit)) n r (lenderClaims (now (calendar .entry)) (now (tables .entry)) day (rowOf index (now (row .entry))) security lender (now (lent .entry))) ⌝ }
+    requires { ⌜ Ready (now calendar) (now tables) (now row) security × (length (now lent) ≡ 16) × (all small (now lent) ≡ true) × Free write (now buffer) n (lenderClaims (now calendar) (now tables) day «claim_type» (rowOf index (now row)) security lender (now lent)) ⌝ }
+    ensures { λ r. ⌜ Passed write (now (buffer .entry)) (now (buffer .exit)) n r (lenderClaims (now (calendar .entry)) (now (tables .entry)) day «claim_type» (rowOf index (now (row .entry))) security lender (now (lent .entry))) ⌝ }
 {
     let mut m = n;
     let mut b: u8 = 0;
@@ -85,6 +87,7 @@ fn pass_lender(
             calendar,
             tables,
             day,
+            claim_type,
             security,
             lender,
             b,
@@ -97,21 +100,22 @@ fn pass_lender(
     m
 }
 
-// The claims on a row, by lender and borrower; held is the balances of its security.
-fn pass_row(
+// The claims of a type on a row, by lender and borrower; held is the balances of its security.
+fn pass_tracking(
     write: bool,
     buffer: &mut [u8],
     n: usize,
     calendar: &[u32],
     tables: &[u32],
     day: u32,
+    claim_type: u8,
     security: u8,
     held: &[u64],
     index: u8,
     row: &[u32],
 ) -> usize
-    requires { ⌜ Ready (now calendar) (now tables) (now row) security × (length (now held) ≡ 256) × (all small (now held) ≡ true) × Free write (now buffer) n (rowClaims (now calendar) (now tables) day security (now held) (rowOf index (now row))) ⌝ }
-    ensures { λ r. ⌜ Passed write (now (buffer .entry)) (now (buffer .exit)) n r (rowClaims (now (calendar .entry)) (now (tables .entry)) day security (now (held .entry)) (rowOf index (now (row .entry)))) ⌝ }
+    requires { ⌜ Ready (now calendar) (now tables) (now row) security × (length (now held) ≡ 256) × (all small (now held) ≡ true) × Free write (now buffer) n (trackingClaims (now calendar) (now tables) day «claim_type» security (now held) (rowOf index (now row))) ⌝ }
+    ensures { λ r. ⌜ Passed write (now (buffer .entry)) (now (buffer .exit)) n r (trackingClaims (now (calendar .entry)) (now (tables .entry)) day «claim_type» security (now (held .entry)) (rowOf index (now (row .entry)))) ⌝ }
 {
     let mut m = n;
     let mut l: u8 = 0;
@@ -124,6 +128,7 @@ fn pass_row(
             calendar,
             tables,
             day,
+            claim_type,
             security,
             l,
             &held[a..a + 16],
@@ -131,6 +136,44 @@ fn pass_row(
             row,
         );
         l += 1;
+    }
+    m
+}
+
+// The claims on a row, lending before repo.
+fn pass_row(
+    write: bool,
+    buffer: &mut [u8],
+    n: usize,
+    calendar: &[u32],
+    tables: &[u32],
+    day: u32,
+    security: u8,
+    balances: &[u64],
+    index: u8,
+    row: &[u32],
+) -> usize
+    requires { ⌜ Ready (now calendar) (now tables) (now row) security × (length (now balances) ≡ 8192) × (all small (now balances) ≡ true) × Free write (now buffer) n (rowClaims (now calendar) (now tables) day security (now balances) (rowOf index (now row))) ⌝ }
+    ensures { λ r. ⌜ Passed write (now (buffer .entry)) (now (buffer .exit)) n r (rowClaims (now (calendar .entry)) (now (tables .entry)) day security (now (balances .entry)) (rowOf index (now (row .entry)))) ⌝ }
+{
+    let mut m = n;
+    let mut k: u8 = 0;
+    while k < 2 {
+        let a = 4096 * (k as usize) + 256 * (security as usize);
+        m = pass_tracking(
+            write,
+            buffer,
+            m,
+            calendar,
+            tables,
+            day,
+            LENDING + k,
+            security,
+            &balances[a..a + 256],
+            index,
+            row,
+        );
+        k += 1;
     }
     m
 }
@@ -145,12 +188,12 @@ fn pass_turn(
     day: u32,
     next: u32,
     security: u8,
-    held: &[u64],
+    balances: &[u64],
     index: u8,
     row: &[u32],
 ) -> usize
-    requires { ⌜ Sound (now calendar) (now tables) day next security index (now row) × (length (now held) ≡ 256) × (all small (now held) ≡ true) × Free write (now buffer) n (turnClaims (now calendar) (now tables) day next security (now held) (rowOf index (now row))) ⌝ }
-    ensures { λ r. ⌜ Passed write (now (buffer .entry)) (now (buffer .exit)) n r (turnClaims (now (calendar .entry)) (now (tables .entry)) day next security (now (held .entry)) (rowOf index (now (row .entry)))) ⌝ }
+    requires { ⌜ Sound (now calendar) (now tables) day next security index (now row) × (length (now balances) ≡ 8192) × (all small (now balances) ≡ true) × Free write (now buffer) n (turnClaims (now calendar) (now tables) day next security (now balances) (rowOf index (now row))) ⌝ }
+    ensures { λ r. ⌜ Passed write (now (buffer .entry)) (now (buffer .exit)) n r (turnClaims (now (calendar .entry)) (now (tables .entry)) day next security (now (balances .entry)) (rowOf index (now (row .entry)))) ⌝ }
 {
     let date = row[0];
     if date <= day {
@@ -167,13 +210,13 @@ fn pass_turn(
         tables,
         day,
         security,
-        held,
+        balances,
         index,
         row,
     )
 }
 
-// The claims on a security's rows; held is its balances.
+// The claims on a security's rows.
 fn pass_security(
     write: bool,
     buffer: &mut [u8],
@@ -183,10 +226,10 @@ fn pass_security(
     day: u32,
     next: u32,
     security: u8,
-    held: &[u64],
+    balances: &[u64],
 ) -> usize
-    requires { ⌜ SoundClose (now calendar) (now tables) day next × (security < 16) × (length (now held) ≡ 256) × (all small (now held) ≡ true) × Free write (now buffer) n (securityClaims (now calendar) (now tables) day security (now held)) ⌝ }
-    ensures { λ r. ⌜ Passed write (now (buffer .entry)) (now (buffer .exit)) n r (securityClaims (now (calendar .entry)) (now (tables .entry)) day security (now (held .entry))) ⌝ }
+    requires { ⌜ SoundClose (now calendar) (now tables) day next × (security < 16) × (length (now balances) ≡ 8192) × (all small (now balances) ≡ true) × Free write (now buffer) n (securityClaims (now calendar) (now tables) day security (now balances)) ⌝ }
+    ensures { λ r. ⌜ Passed write (now (buffer .entry)) (now (buffer .exit)) n r (securityClaims (now (calendar .entry)) (now (tables .entry)) day security (now (balances .entry))) ⌝ }
 {
     let start = 114 * (security as usize) + 2;
     let mut m = n;
@@ -202,7 +245,7 @@ fn pass_security(
             day,
             next,
             security,
-            held,
+            balances,
             i,
             &tables[a..a + 7],
         );
@@ -211,7 +254,7 @@ fn pass_security(
     m
 }
 
-// The claims of a close of the day, in the order security, row, lender, borrower. It answers how many there are.
+// The claims of a close of the day, in the order security, row, tracking, lender, borrower. It answers how many there are.
 pub fn pass_close(
     write: bool,
     buffer: &mut [u8],
@@ -221,24 +264,13 @@ pub fn pass_close(
     next: u32,
     balances: &[u64],
 ) -> usize
-    requires { ⌜ SoundClose (now calendar) (now tables) day next × (length (now balances) ≡ 4096) × (all small (now balances) ≡ true) × Free write (now buffer) 0 (closeClaims (now calendar) (now tables) day (now balances)) ⌝ }
+    requires { ⌜ SoundClose (now calendar) (now tables) day next × (length (now balances) ≡ 8192) × (all small (now balances) ≡ true) × Free write (now buffer) 0 (closeClaims (now calendar) (now tables) day (now balances)) ⌝ }
     ensures { λ r. ⌜ Passed write (now (buffer .entry)) (now (buffer .exit)) 0 r (closeClaims (now (calendar .entry)) (now (tables .entry)) day (now (balances .entry))) ⌝ }
 {
     let mut m: usize = 0;
     let mut s: u8 = 0;
     while s < 16 {
-        let a = 256 * (s as usize);
-        m = pass_security(
-            write,
-            buffer,
-            m,
-            calendar,
-            tables,
-            day,
-            next,
-            s,
-            &balances[a..a + 256],
-        );
+        m = pass_security(write, buffer, m, calendar, tables, day, next, s, balances);
         s += 1;
     }
     m

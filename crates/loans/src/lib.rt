@@ -4,58 +4,78 @@ ghost use Prim.Native.Nat.{_<_};
 ghost use lib.ListN.{length};
 ghost use Rattle.lists.specs.First.{firstOf};
 ghost use Rattle.book.specs.Book.{word};
-ghost use Rattle.book.specs.Loans.{increasing, decreasing, changeOf, changed, loanCauses};
+ghost use Rattle.book.specs.Loans.{trackingOf, stepOf, increasing, decreasing, changeOf, changed, loanCauses};
 use records::Transfer;
+
+// The tracking of a code: 0 lending, 1 repo.
+fn tracking(code: u8) -> u8
+    ensures { λ r. ⌜ (r ≡ trackingOf code) × (r < 2) ⌝ }
+{
+    if 6 < code { 1 } else { 0 }
+}
+
+// The place of a code in its tracking.
+fn step(code: u8) -> u8
+    ensures { λ r. ⌜ r ≡ stepOf code ⌝ }
+{
+    if 6 < code { code - 6 } else { code }
+}
 
 // Whether a tracking code adds to what the sender has lent the receiver.
 fn increases(code: u8) -> bool
-    ensures { λ r. ⌜ r ≡ increasing code ⌝ }
+    ensures { λ r. ⌜ r ≡ increasing (stepOf code) ⌝ }
 {
-    if code == 1 {
+    let n = step(code);
+    if n == 1 {
         return true;
     }
-    if code == 4 {
+    if n == 4 {
         return true;
     }
-    code == 5
+    n == 5
 }
 
 // Whether a tracking code takes from what the receiver has lent the sender.
 fn decreases(code: u8) -> bool
-    ensures { λ r. ⌜ r ≡ decreasing code ⌝ }
+    ensures { λ r. ⌜ r ≡ decreasing (stepOf code) ⌝ }
 {
-    if code == 2 {
+    let n = step(code);
+    if n == 2 {
         return true;
     }
-    if code == 3 {
+    if n == 3 {
         return true;
     }
-    code == 6
+    n == 6
 }
 
-// The word of what a lender has lent a borrower in a security.
-fn word_of(security: u8, lender: u8, borrower: u8) -> usize
+// The word of what a lender has lent a borrower in a security, on loan or on repo by the code.
+fn word_of(code: u8, security: u8, lender: u8, borrower: u8) -> usize
     requires { ⌜ (security < 16) × (lender < 16) × (borrower < 16) ⌝ }
-    ensures { λ r. ⌜ (r ≡ word (record { security = security; lender = lender; borrower = borrower })) × (r < 4096) ⌝ }
+    ensures { λ r. ⌜ (r ≡ word (record { tracking = trackingOf code; security = security; lender = lender; borrower = borrower })) × (r < 8192) ⌝ }
 {
-    256 * (security as usize) + 16 * (lender as usize) + borrower as usize
+    let tracking = tracking(code);
+    4096 * (tracking as usize)
+        + 256 * (security as usize)
+        + 16 * (lender as usize)
+        + borrower as usize
 }
 
 // Number 7 for a decrease above the balance, 8 for an increase past the largest balance, 0 for any other transfer.
 pub fn loan_number(balances: &[u64], t: Transfer) -> u16
-    requires { ⌜ (length (now balances) ≡ 4096) × (t .sender < 16) × (t .receiver < 16) × (t .security < 16) ⌝ }
+    requires { ⌜ (length (now balances) ≡ 8192) × (t .sender < 16) × (t .receiver < 16) × (t .security < 16) ⌝ }
     ensures { λ r. ⌜ r ≡ firstOf (loanCauses (now (balances .entry)) t) ⌝ }
 {
     let par = t.par as u64;
     if increases(t.code) {
-        let lent = balances[word_of(t.security, t.sender, t.receiver)];
+        let lent = balances[word_of(t.code, t.security, t.sender, t.receiver)];
         if book::LARGEST_BALANCE - par < lent {
             return 8;
         }
         return 0;
     }
     if decreases(t.code) {
-        let borrowed = balances[word_of(t.security, t.receiver, t.sender)];
+        let borrowed = balances[word_of(t.code, t.security, t.receiver, t.sender)];
         if borrowed < par {
             return 7;
         }
@@ -66,17 +86,17 @@ pub fn loan_number(balances: &[u64], t: Transfer) -> u16
 
 // Adds an accepted transfer's par to its balance or takes it away.
 pub fn post(balances: &mut [u64], t: Transfer)
-    requires { ⌜ (length (now balances) ≡ 4096) × (t .sender < 16) × (t .receiver < 16) × (t .security < 16) × (firstOf (loanCauses (now balances) t) ≡ 0) ⌝ }
+    requires { ⌜ (length (now balances) ≡ 8192) × (t .sender < 16) × (t .receiver < 16) × (t .security < 16) × (firstOf (loanCauses (now balances) t) ≡ 0) ⌝ }
     ensures { λ _. ⌜ now (balances .exit) ≡ changed (now (balances .entry)) (changeOf t) (t .par) ⌝ }
 {
     let par = t.par as u64;
     if increases(t.code) {
-        let w = word_of(t.security, t.sender, t.receiver);
+        let w = word_of(t.code, t.security, t.sender, t.receiver);
         balances[w] = balances[w] + par;
         return;
     }
     if decreases(t.code) {
-        let w = word_of(t.security, t.receiver, t.sender);
+        let w = word_of(t.code, t.security, t.receiver, t.sender);
         balances[w] = balances[w] - par;
         return;
     }

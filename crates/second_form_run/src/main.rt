@@ -55,7 +55,7 @@ fn fill_tables(tables: &mut [u32; 1824]) {
 }
 
 // Writes a call's line and answers the book after it.
-fn told(name: &[u8], done: Done, balances: &[u64; 4096]) -> Book {
+fn told(name: &[u8], done: Done, balances: &[u64; 8192]) -> Book {
     print(name);
     print_field(done.number as u64);
     print_field(done.book.day as u64);
@@ -105,7 +105,7 @@ fn run_transfer(
     calendar: &[u32; 480],
     tables: &[u32; 1824],
     book: Book,
-    balances: &mut [u64; 4096],
+    balances: &mut [u64; 8192],
     fields: Transfer,
 ) -> Book {
     let line = [32u8; 64];
@@ -131,7 +131,7 @@ fn run_close(
     calendar: &[u32; 480],
     tables: &[u32; 1824],
     book: Book,
-    balances: &mut [u64; 4096],
+    balances: &mut [u64; 8192],
     claims: &mut [u8],
 ) -> Book {
     let mut message = [0u8; 4];
@@ -169,7 +169,7 @@ fn run_cases(
     second: bool,
     calendar: &[u32; 480],
     tables: &[u32; 1824],
-    balances: &mut [u64; 4096],
+    balances: &mut [u64; 8192],
     claims: &mut [u8; 70],
 ) {
     let opened = tracker::calls::claim_tracker_open(calendar, tables, balances, 20230331);
@@ -226,8 +226,8 @@ fn run_cases(
 
 // Writes whether both forms leave the same balances and claim buffers.
 fn print_same(
-    balances: &[u64; 4096],
-    own_balances: &[u64; 4096],
+    balances: &[u64; 8192],
+    own_balances: &[u64; 8192],
     claims: &[u8; 70],
     own_claims: &[u8; 70],
 ) {
@@ -247,11 +247,11 @@ fn main() {
     fill_calendar(&mut calendar);
     let mut tables = [0u32; 1824];
     fill_tables(&mut tables);
-    let mut balances = [0u64; 4096];
+    let mut balances = [0u64; 8192];
     let mut claims = [0u8; 70];
     print(b"by value\n");
     run_cases(false, &calendar, &tables, &mut balances, &mut claims);
-    let mut own_balances = [0u64; 4096];
+    let mut own_balances = [0u64; 8192];
     let mut own_claims = [0u8; 70];
     print(b"the caller's own book\n");
     run_cases(true, &calendar, &tables, &mut own_balances, &mut own_claims);

@@ -86,10 +86,10 @@ sameRun s day count consumed bytes over =
 
 runs : Bool
 runs =
-    sameRun (serving weekdays caseTables true book (replicate 4096 0) input 200000) 20230405 1 145 (example ++ (accepted ++ five)) true
-    && sameRun (serving weekdays caseTables false book (replicate 4096 0) input 200000) 20230405 1 145 (example ++ accepted) false
-    && sameRun (serving weekdays caseTables true book (replicate 4096 0) input 65582) 20230404 1 141 example false
-    && sameBytes (streamBytes weekdays caseTables book (replicate 4096 0) input) (example ++ (accepted ++ five))
+    sameRun (serving weekdays caseTables true book (replicate 8192 0) input 200000) 20230405 1 145 (example ++ (accepted ++ five)) true
+    && sameRun (serving weekdays caseTables false book (replicate 8192 0) input 200000) 20230405 1 145 (example ++ accepted) false
+    && sameRun (serving weekdays caseTables true book (replicate 8192 0) input 65582) 20230404 1 141 example false
+    && sameBytes (streamBytes weekdays caseTables book (replicate 8192 0) input) (example ++ (accepted ++ five))
 
 -- ---- closes with many claims
 
@@ -116,7 +116,7 @@ friday = record { day = 20230331; count = 0 }
 -- two rows of two securities, 240 loans in each: 960 claims, 33,600 bytes
 many : Bool
 many =
-    let bytes = streamBytes weekdays (twoRows ++ (twoRows ++ replicate 1596 0)) friday (lenders 16 ++ (lenders 16 ++ replicate 3584 0)) closing in
+    let bytes = streamBytes weekdays (twoRows ++ (twoRows ++ replicate 1596 0)) friday (lenders 16 ++ (lenders 16 ++ replicate 7680 0)) closing in
     eqb (length bytes) 33606
     && eqb (sum (λ b. b) bytes) 672008
     && sameBytes (take 35 bytes)
@@ -129,7 +129,7 @@ tooMany : Bool
 tooMany =
     sameBytes
     (streamBytes weekdays (threeRows ++ (threeRows ++ (threeRows ++ replicate 1482 0))) friday
-    (lenders 16 ++ (lenders 16 ++ (lenders 16 ++ replicate 3328 0))) closing)
+    (lenders 16 ++ (lenders 16 ++ (lenders 16 ++ replicate 7424 0))) closing)
     (4 ∷ 0 ∷ 4 ∷ 0 ∷ 10 ∷ 0 ∷ [])
 
 -- ---- the theorems

@@ -43,7 +43,7 @@ fn out_of_range(tables: &[u32], t: Transfer) -> bool
     if 1 < t.class {
         return true;
     }
-    if 6 < t.code {
+    if 12 < t.code {
         return true;
     }
     if t.par == 0 {
@@ -57,7 +57,7 @@ fn out_of_range(tables: &[u32], t: Transfer) -> bool
 
 // The first of the numbers 6, 132 to 139, 11, 7 and 8 that a transfer meets, 0 where it meets none.
 fn own_number(tables: &[u32], book: Book, balances: &[u64], t: Transfer, tag: Tag) -> u16
-    requires { ⌜ (length (now tables) ≡ 1824) × (length (now balances) ≡ 4096) ⌝ }
+    requires { ⌜ (length (now tables) ≡ 1824) × (length (now balances) ≡ 8192) ⌝ }
     ensures { λ r. ⌜ r ≡ firstOf (transferCauses (now (tables .entry)) book (now (balances .entry)) t tag) ⌝ }
 {
     if out_of_range(tables, t) {

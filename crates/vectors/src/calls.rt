@@ -216,9 +216,9 @@ fn try_all(
     t: &[u8],
     calendar: &mut [u32; 512],
     tables: &mut [u32; 1856],
-    balances: &mut [u64; 4128],
+    balances: &mut [u64; 8224],
     claims: &mut [u8; 16384],
-    left: &mut [u64; 4128],
+    left: &mut [u64; 8224],
 ) -> Totals {
     let mut totals = totals::none();
     let mut at: usize = 0;
@@ -254,8 +254,8 @@ fn try_all(
 fn try_file(s: &[u8], t: &[u8]) -> Totals {
     let mut calendar = [0u32; 512];
     let mut tables = [0u32; 1856];
-    let mut balances = [0u64; 4128];
-    let mut left = [0u64; 4128];
+    let mut balances = [0u64; 8224];
+    let mut left = [0u64; 8224];
     let mut claims = [0u8; 16384];
     try_all(
         s,

@@ -250,14 +250,14 @@ fn try_stored(file: &mut [u8], balances: &mut [u64], output: &mut [u8]) {
 }
 
 // The same with whole buffers. The arrays are handed on by reference first, so that their elements stay out of the proofs.
-fn try_whole(file: &mut [u8; 1310720], balances: &mut [u64; 4096], output: &mut [u8; 131072]) {
+fn try_whole(file: &mut [u8; 1310720], balances: &mut [u64; 8192], output: &mut [u8; 131072]) {
     try_stored(file, balances, output);
 }
 
 // Tries the stored streams and writes how many agree.
 pub fn try_streams() {
     let mut file = [0u8; 1310720];
-    let mut balances = [0u64; 4096];
+    let mut balances = [0u64; 8192];
     let mut output = [0u8; 131072];
     try_whole(&mut file, &mut balances, &mut output);
 }

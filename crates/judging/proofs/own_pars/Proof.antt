@@ -11,7 +11,7 @@ abbrev Inv-loop : tie.InvT-loop
 Inv-loop balances total₀ n₀ total n = Owning balances total n
 
 abbrev μ-loop : tie.MeasureT-loop
-μ-loop balances total₀ n₀ total n = 256 - n
+μ-loop balances total₀ n₀ total n = 512 - n
 
 loop-holds : tie.Need-loop-holds Inv-loop μ-loop
 loop-holds c = owning-start _

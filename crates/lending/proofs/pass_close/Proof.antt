@@ -12,7 +12,7 @@ use Rattle.lending.proofs.pass_close.Tie as tie
 
 abbrev Inv-loop : tie.InvT-loop
 Inv-loop write buffer₀ calendar tables day next balances m₀ s₀ buffer m s =
-    Turning write (λ j. securityClaims calendar tables day j (part (256 * j) 256 balances)) 16 buffer₀ buffer 0 m s
+    Turning write (λ j. securityClaims calendar tables day j balances) 16 buffer₀ buffer 0 m s
 
 abbrev μ-loop : tie.MeasureT-loop
 μ-loop write buffer₀ calendar tables day next balances m₀ s₀ buffer m s = 16 - s
@@ -20,40 +20,15 @@ abbrev μ-loop : tie.MeasureT-loop
 loop-holds : tie.Need-loop-holds Inv-loop μ-loop
 loop-holds c = turn-start _ _ 16 _ _
 
-cast-a : tie.Need-cast-a Inv-loop μ-loop
-cast-a c = search needs
-
-mul-a : tie.Need-mul-a Inv-loop μ-loop
-mul-a c = search needs
-
-add-pass-security : tie.Need-add-pass-security Inv-loop μ-loop
-add-pass-security c = search needs
-
-mul-pass-security : tie.Need-mul-pass-security Inv-loop μ-loop
-mul-pass-security c = search needs
-
-sub-pass-security : tie.Need-sub-pass-security Inv-loop μ-loop
-sub-pass-security c = search needs
-
-part-pass-security-start : tie.Need-part-pass-security-start Inv-loop μ-loop
-part-pass-security-start c = search needs
-
-part-pass-security-end : tie.Need-part-pass-security-end Inv-loop μ-loop
-part-pass-security-end c = search needs
-
 pass-security-requires : tie.Need-pass-security-requires Inv-loop μ-loop
 pass-security-requires c κs =
-    let p = c .before .before .before .before .before .before .before .before .pre in
-    let a = c .before .before .before .before .before .before .before .before .args in
-    let s = c .before .before .before .loop .s in
-    let e : 256 * s + 256 - 256 * s ≡ 256 = omega arith in
-    let h = p .1 in
-    rw e (
+    let p = c .before .before .before .before .before .before .before .pre in
+    let a = c .before .before .before .before .before .before .before .args in (
       p .0,
       search needs,
-      part-length (256 * s) 256 (a .balances .now) (search needs),
-      small-part (256 * s) 256 (a .balances .now) (p .2),
-      turn-free (λ j. securityClaims (a .calendar .now) (a .tables .now) (a .day) j (part (256 * j) 256 (a .balances .now))) (rw close-turns at (p .3)) (c .before .before .before .loop .inv) (search needs),
+      p .1,
+      p .2,
+      turn-free (λ j. securityClaims (a .calendar .now) (a .tables .now) (a .day) j (a .balances .now)) (rw close-turns at (p .3)) (c .before .before .loop .inv) (search needs),
     )
 
 add-s : tie.Need-add-s Inv-loop μ-loop
@@ -64,12 +39,10 @@ loop-less c = search needs
 
 loop-again : tie.Need-loop-again Inv-loop μ-loop
 loop-again c =
-    let p = c .before .before .before .before .before .before .before .before .before .before .before .pre in
-    let a = c .before .before .before .before .before .before .before .before .before .before .before .args in
-    let s = c .before .before .before .before .before .before .loop .s in
+    let p = c .before .before .before .before .before .before .before .before .before .before .pre in
+    let a = c .before .before .before .before .before .before .before .before .before .before .args in
     let d = c .before .before .pass-security in
-    let e : 256 * s + 256 - 256 * s ≡ 256 = omega arith in
-    turn-step (λ j. securityClaims (a .calendar .now) (a .tables .now) (a .day) j (part (256 * j) 256 (a .balances .now))) (rw close-turns at (p .3)) (c .before .before .before .before .before .before .loop .inv) (search needs) (rw e at (d .ensures)) (d .kept .1 .0)
+    turn-step (λ j. securityClaims (a .calendar .now) (a .tables .now) (a .day) j (a .balances .now)) (rw close-turns at (p .3)) (c .before .before .before .before .before .loop .inv) (search needs) (d .ensures) (d .kept .1 .0)
 
 same-length : tie.Need-same-length Inv-loop μ-loop
 same-length c = c .before .loop .inv .sized
@@ -78,7 +51,7 @@ returns : tie.Need-returns Inv-loop μ-loop
 returns c =
     let p = c .before .before .before .before .before .before .pre in
     let a = c .before .before .before .before .before .before .args in
-    rw close-turns (turn-end (λ j. securityClaims (a .calendar .now) (a .tables .now) (a .day) j (part (256 * j) 256 (a .balances .now))) (rw close-turns at (p .3)) (c .before .loop .inv) (c .loop-test .left))
+    rw close-turns (turn-end (λ j. securityClaims (a .calendar .now) (a .tables .now) (a .day) j (a .balances .now)) (rw close-turns at (p .3)) (c .before .loop .inv) (c .loop-test .left))
 
 pub pass-close-spec : {M : Type 1} → statement M
 pass-close-spec =
@@ -87,13 +60,6 @@ pass-close-spec =
     Inv-loop
     μ-loop
     loop-holds
-    cast-a
-    mul-a
-    add-pass-security
-    mul-pass-security
-    sub-pass-security
-    part-pass-security-start
-    part-pass-security-end
     pass-security-requires
     add-s
     loop-less

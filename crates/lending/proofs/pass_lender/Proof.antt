@@ -11,11 +11,11 @@ use Rattle.lending.proofs.pass_lender.Statement.{statement}
 use Rattle.lending.proofs.pass_lender.Tie as tie
 
 abbrev Inv-loop : tie.InvT-loop
-Inv-loop write buffer₀ n calendar tables day security lender lent index row m₀ b₀ buffer m b =
-    Turning write (λ b. loanClaim calendar tables day (rowOf index row) (loanParties security lender b) (getD lent b 0)) 16 buffer₀ buffer n m b
+Inv-loop write buffer₀ n calendar tables day claim_type security lender lent index row m₀ b₀ buffer m b =
+    Turning write (λ b. loanClaim calendar tables day claim_type (rowOf index row) (loanParties security lender b) (getD lent b 0)) 16 buffer₀ buffer n m b
 
 abbrev μ-loop : tie.MeasureT-loop
-μ-loop write buffer₀ n calendar tables day security lender lent index row m₀ b₀ buffer m b = 16 - b
+μ-loop write buffer₀ n calendar tables day claim_type security lender lent index row m₀ b₀ buffer m b = 16 - b
 
 loop-holds : tie.Need-loop-holds Inv-loop μ-loop
 loop-holds c = turn-start _ _ 16 _ _
@@ -34,7 +34,7 @@ unfolding lenderClaims
 pass-loan-requires c κs =
     let p = c .before .before .before .before .before .before .before .before .before .pre in
     let a = c .before .before .before .before .before .before .before .before .before .args in
-    (p .0, search needs, small-at (a .lent .now) (c .before .before .before .loop .b) (p .2) (search needs), turn-free (λ b. loanClaim (a .calendar .now) (a .tables .now) (a .day) (rowOf (a .index) (a .row .now)) (loanParties (a .security) (a .lender) b) (getD (a .lent .now) b 0)) (p .3) (c .before .before .before .loop .inv) (search needs))
+    (p .0, search needs, small-at (a .lent .now) (c .before .before .before .loop .b) (p .2) (search needs), turn-free (λ b. loanClaim (a .calendar .now) (a .tables .now) (a .day) (a .claim-type) (rowOf (a .index) (a .row .now)) (loanParties (a .security) (a .lender) b) (getD (a .lent .now) b 0)) (p .3) (c .before .before .before .loop .inv) (search needs))
 
 add-b : tie.Need-add-b Inv-loop μ-loop
 add-b c = search needs
@@ -48,7 +48,7 @@ loop-again c =
     let p = c .before .before .before .before .before .before .before .before .before .before .before .before .pre in
     let a = c .before .before .before .before .before .before .before .before .before .before .before .before .args in
     let e = c .before .before .pass-loan in
-    turn-step (λ b. loanClaim (a .calendar .now) (a .tables .now) (a .day) (rowOf (a .index) (a .row .now)) (loanParties (a .security) (a .lender) b) (getD (a .lent .now) b 0)) (p .3) (c .before .before .before .before .before .before .loop .inv) (search needs) (e .ensures) (e .kept .1 .0)
+    turn-step (λ b. loanClaim (a .calendar .now) (a .tables .now) (a .day) (a .claim-type) (rowOf (a .index) (a .row .now)) (loanParties (a .security) (a .lender) b) (getD (a .lent .now) b 0)) (p .3) (c .before .before .before .before .before .before .loop .inv) (search needs) (e .ensures) (e .kept .1 .0)
 
 same-length : tie.Need-same-length Inv-loop μ-loop
 same-length c = c .before .loop .inv .sized
@@ -58,7 +58,7 @@ unfolding lenderClaims
 returns c =
     let p = c .before .before .before .before .before .before .before .pre in
     let a = c .before .before .before .before .before .before .before .args in
-    turn-end (λ b. loanClaim (a .calendar .now) (a .tables .now) (a .day) (rowOf (a .index) (a .row .now)) (loanParties (a .security) (a .lender) b) (getD (a .lent .now) b 0)) (p .3) (c .before .loop .inv) (c .loop-test .left)
+    turn-end (λ b. loanClaim (a .calendar .now) (a .tables .now) (a .day) (a .claim-type) (rowOf (a .index) (a .row .now)) (loanParties (a .security) (a .lender) b) (getD (a .lent .now) b 0)) (p .3) (c .before .loop .inv) (c .loop-test .left)
 
 pub pass-lender-spec : {M : Type 1} → statement M
 pass-lender-spec =

@@ -16,7 +16,7 @@ use Rattle.lending.proofs.pass_loan.Tie as tie
 returns : tie.Need-returns
 returns c =
     let a = c .before .before .before .before .before .args in
-    passed-nothing _ _ _ _ (loan-none (a .calendar .now) (a .tables .now) (a .day) (rowOf (a .index) (a .row .now)) (loanParties (a .security) (a .lender) (a .borrower)) (a .par) (c .if1 .taken))
+    passed-nothing _ _ _ _ (loan-none (a .calendar .now) (a .tables .now) (a .day) (a .claim-type) (rowOf (a .index) (a .row .now)) (loanParties (a .security) (a .lender) (a .borrower)) (a .par) (c .if1 .taken))
 
 add-result : tie.Need-add-result
 add-result c = let f = c .before .before .before .before .before .before .pre .3 .few in search needs
@@ -25,7 +25,7 @@ returns-2 : tie.Need-returns-2
 unfolding loanParties
 returns-2 c =
     let a = c .before .before .before .before .before .before .args in
-    passed-count _ _ _ _ _ (not-true _ (c .if2 .taken)) (loan-one (a .calendar .now) (a .tables .now) (a .day) (rowOf (a .index) (a .row .now)) (loanParties (a .security) (a .lender) (a .borrower)) (a .par) (c .before .if1 .left))
+    passed-count _ _ _ _ _ (not-true _ (c .if2 .taken)) (loan-one (a .calendar .now) (a .tables .now) (a .day) (a .claim-type) (rowOf (a .index) (a .row .now)) (loanParties (a .security) (a .lender) (a .borrower)) (a .par) (c .before .if1 .left))
 
 claim-on-requires : tie.Need-claim-on-requires
 claim-on-requires c κs =
@@ -47,7 +47,7 @@ unfolding loanParties
 put-claim-requires c κs =
     let p = c .before .before .before .before .before .before .before .before .pre in
     let a = c .before .before .before .before .before .before .before .before .args in
-    room-one (a .buffer .now) (a .n) _ _ (loan-one (a .calendar .now) (a .tables .now) (a .day) (rowOf (a .index) (a .row .now)) (loanParties (a .security) (a .lender) (a .borrower)) (a .par) (c .before .before .before .if1 .left)) (p .3 .room (not-false _ (c .before .before .if2 .left)))
+    room-one (a .buffer .now) (a .n) _ _ (loan-one (a .calendar .now) (a .tables .now) (a .day) (a .claim-type) (rowOf (a .index) (a .row .now)) (loanParties (a .security) (a .lender) (a .borrower)) (a .par) (c .before .before .before .if1 .left)) (p .3 .room (not-false _ (c .before .before .if2 .left)))
 
 add-result-2 : tie.Need-add-result-2
 add-result-2 c = let f = c .before .before .before .before .before .before .before .before .before .before .before .pre .3 .few in search needs
@@ -59,7 +59,7 @@ returns-3 : tie.Need-returns-3
 unfolding loanParties
 returns-3 c =
     let a = c .before .before .before .before .before .before .before .before .before .before .before .args in
-    passed-store _ _ _ _ _ _ (not-false _ (c .before .before .before .before .before .if2 .left)) (loan-one (a .calendar .now) (a .tables .now) (a .day) (rowOf (a .index) (a .row .now)) (loanParties (a .security) (a .lender) (a .borrower)) (a .par) (c .before .before .before .before .before .before .if1 .left))
+    passed-store _ _ _ _ _ _ (not-false _ (c .before .before .before .before .before .if2 .left)) (loan-one (a .calendar .now) (a .tables .now) (a .day) (a .claim-type) (rowOf (a .index) (a .row .now)) (loanParties (a .security) (a .lender) (a .borrower)) (a .par) (c .before .before .before .before .before .before .if1 .left))
     (c .before .before .put-claim .ensures ∙ ap (λ (x : Claim). put (a .buffer .now) (35 * a .n) (claimBytes x)) (c .before .before .before .claim-on .ensures))
 
 pub pass-loan-spec : {M : Type 1} → statement M

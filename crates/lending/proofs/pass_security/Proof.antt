@@ -12,11 +12,11 @@ use Rattle.lending.proofs.pass_security.Statement.{statement}
 use Rattle.lending.proofs.pass_security.Tie as tie
 
 abbrev Inv-loop : tie.InvT-loop
-Inv-loop write buffer₀ n calendar tables day next security held start m₀ i₀ buffer m i =
-    Turning write (λ j. turnClaims calendar tables day next security held (rowOf j (part (2 + 7 * j) 7 (securityOf tables security)))) 16 buffer₀ buffer n m i
+Inv-loop write buffer₀ n calendar tables day next security balances start m₀ i₀ buffer m i =
+    Turning write (λ j. turnClaims calendar tables day next security balances (rowOf j (part (2 + 7 * j) 7 (securityOf tables security)))) 16 buffer₀ buffer n m i
 
 abbrev μ-loop : tie.MeasureT-loop
-μ-loop write buffer₀ n calendar tables day next security held start m₀ i₀ buffer m i = 16 - i
+μ-loop write buffer₀ n calendar tables day next security balances start m₀ i₀ buffer m i = 16 - i
 
 mul-start : tie.Need-mul-start Inv-loop μ-loop
 mul-start c = search needs
@@ -63,7 +63,7 @@ pass-turn-requires c κs =
       record { close = p .0; known = p .1; numbered = search needs; words = refl },
       p .2,
       p .3,
-      turn-free (λ j. turnClaims (a .calendar .now) (a .tables .now) (a .day) (a .next) (a .security) (a .held .now) (rowOf j (part (2 + 7 * j) 7 (securityOf (a .tables .now) (a .security))))) (rw (security-turns (a .calendar .now) (a .tables .now) (a .day) (a .next) (a .security) (a .held .now) (p .0 .next-day)) at (p .4)) (c .before .before .before .loop .inv) (search needs),
+      turn-free (λ j. turnClaims (a .calendar .now) (a .tables .now) (a .day) (a .next) (a .security) (a .balances .now) (rowOf j (part (2 + 7 * j) 7 (securityOf (a .tables .now) (a .security))))) (rw (security-turns (a .calendar .now) (a .tables .now) (a .day) (a .next) (a .security) (a .balances .now) (p .0 .next-day)) at (p .4)) (c .before .before .before .loop .inv) (search needs),
     )
 
 add-i : tie.Need-add-i Inv-loop μ-loop
@@ -81,7 +81,7 @@ loop-again c =
     let at = 114 * a .security + 2 + 7 * i in
     let e : at + 7 - at ≡ 7 = omega arith in
     let w = row-words (a .tables .now) (a .security) i at (search needs) refl in
-    turn-step (λ j. turnClaims (a .calendar .now) (a .tables .now) (a .day) (a .next) (a .security) (a .held .now) (rowOf j (part (2 + 7 * j) 7 (securityOf (a .tables .now) (a .security))))) (rw (security-turns (a .calendar .now) (a .tables .now) (a .day) (a .next) (a .security) (a .held .now) (p .0 .next-day)) at (p .4)) (c .before .before .before .before .before .before .loop .inv) (search needs) (rw (e, w) at (d .ensures)) (d .kept .1 .0)
+    turn-step (λ j. turnClaims (a .calendar .now) (a .tables .now) (a .day) (a .next) (a .security) (a .balances .now) (rowOf j (part (2 + 7 * j) 7 (securityOf (a .tables .now) (a .security))))) (rw (security-turns (a .calendar .now) (a .tables .now) (a .day) (a .next) (a .security) (a .balances .now) (p .0 .next-day)) at (p .4)) (c .before .before .before .before .before .before .loop .inv) (search needs) (rw (e, w) at (d .ensures)) (d .kept .1 .0)
 
 same-length : tie.Need-same-length Inv-loop μ-loop
 same-length c = c .before .loop .inv .sized
@@ -90,8 +90,8 @@ returns : tie.Need-returns Inv-loop μ-loop
 returns c =
     let p = c .before .before .before .before .before .before .pre in
     let a = c .before .before .before .before .before .before .args in
-    rw (security-turns (a .calendar .now) (a .tables .now) (a .day) (a .next) (a .security) (a .held .now) (p .0 .next-day))
-    (turn-end (λ j. turnClaims (a .calendar .now) (a .tables .now) (a .day) (a .next) (a .security) (a .held .now) (rowOf j (part (2 + 7 * j) 7 (securityOf (a .tables .now) (a .security))))) (rw (security-turns (a .calendar .now) (a .tables .now) (a .day) (a .next) (a .security) (a .held .now) (p .0 .next-day)) at (p .4)) (c .before .loop .inv) (c .loop-test .left))
+    rw (security-turns (a .calendar .now) (a .tables .now) (a .day) (a .next) (a .security) (a .balances .now) (p .0 .next-day))
+    (turn-end (λ j. turnClaims (a .calendar .now) (a .tables .now) (a .day) (a .next) (a .security) (a .balances .now) (rowOf j (part (2 + 7 * j) 7 (securityOf (a .tables .now) (a .security))))) (rw (security-turns (a .calendar .now) (a .tables .now) (a .day) (a .next) (a .security) (a .balances .now) (p .0 .next-day)) at (p .4)) (c .before .loop .inv) (c .loop-test .left))
 
 pub pass-security-spec : {M : Type 1} → statement M
 pass-security-spec =

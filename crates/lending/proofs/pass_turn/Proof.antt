@@ -13,13 +13,13 @@ returns : tie.Need-returns
 unfolding rowOf
 returns c =
     let a = c .before .before .before .before .before .before .before .args in
-    passed-nothing _ _ _ _ (turn-early (a .calendar .now) (a .tables .now) (a .day) (a .next) (a .security) (a .held .now) (rowOf (a .index) (a .row .now)) (c .if1 .taken))
+    passed-nothing _ _ _ _ (turn-early (a .calendar .now) (a .tables .now) (a .day) (a .next) (a .security) (a .balances .now) (rowOf (a .index) (a .row .now)) (c .if1 .taken))
 
 returns-2 : tie.Need-returns-2
 unfolding rowOf
 returns-2 c =
     let a = c .before .before .before .before .before .before .before .before .args in
-    passed-nothing _ _ _ _ (turn-late (a .calendar .now) (a .tables .now) (a .day) (a .next) (a .security) (a .held .now) (rowOf (a .index) (a .row .now)) (c .before .if1 .left) (c .if2 .taken))
+    passed-nothing _ _ _ _ (turn-late (a .calendar .now) (a .tables .now) (a .day) (a .next) (a .security) (a .balances .now) (rowOf (a .index) (a .row .now)) (c .before .if1 .left) (c .if2 .taken))
 
 pass-row-requires : tie.Need-pass-row-requires
 unfolding rowOf
@@ -29,7 +29,7 @@ pass-row-requires c κs =
       crossed-ready _ _ _ _ _ _ _ (p .0) (c .before .before .if1 .left) (c .before .if2 .left),
       p .1,
       p .2,
-      rw (turn-crossed (a .calendar .now) (a .tables .now) (a .day) (a .next) (a .security) (a .held .now) (rowOf (a .index) (a .row .now)) (c .before .before .if1 .left) (c .before .if2 .left)) at (p .3),
+      rw (turn-crossed (a .calendar .now) (a .tables .now) (a .day) (a .next) (a .security) (a .balances .now) (rowOf (a .index) (a .row .now)) (c .before .before .if1 .left) (c .before .if2 .left)) at (p .3),
     )
 
 same-length : tie.Need-same-length
@@ -39,7 +39,7 @@ returns-3 : tie.Need-returns-3
 unfolding rowOf
 returns-3 c =
     let a = c .before .before .before .before .before .before .before .before .before .before .before .before .args in
-    rw (turn-crossed (a .calendar .now) (a .tables .now) (a .day) (a .next) (a .security) (a .held .now) (rowOf (a .index) (a .row .now)) (c .before .before .before .before .before .if1 .left) (c .before .before .before .before .if2 .left)) (c .before .before .pass-row .ensures)
+    rw (turn-crossed (a .calendar .now) (a .tables .now) (a .day) (a .next) (a .security) (a .balances .now) (rowOf (a .index) (a .row .now)) (c .before .before .before .before .before .if1 .left) (c .before .before .before .before .if2 .left)) (c .before .before .pass-row .ensures)
 
 pub pass-turn-spec : {M : Type 1} → statement M
 pass-turn-spec =

@@ -1,20 +1,24 @@
--- `decreases` compares the code with each code of the definition.
+-- `decreases` compares the code's place in its tracking with each of the definition.
+use borrow.Author.Needs.{needs}
 use borrow.Author.Tests.{eq-eqb, ne-eqb}
 use Rattle.book.specs.Loans.{decreasing}
 use Rattle.loans.proofs.decreases.Statement.{statement}
 use Rattle.loans.proofs.decreases.Tie as tie
 
+step-requires : tie.Need-step-requires
+step-requires c κs = search needs
+
 returns : tie.Need-returns
 unfolding decreasing
-returns c = rw (eq-eqb _ 2 (c .if1 .taken))
+returns c = rw (← (c .before .step .ensures), eq-eqb _ 2 (c .if1 .taken))
 
 returns-2 : tie.Need-returns-2
 unfolding decreasing
-returns-2 c = rw (ne-eqb _ 2 (c .before .if1 .left), eq-eqb _ 3 (c .if2 .taken))
+returns-2 c = rw (← (c .before .before .step .ensures), ne-eqb _ 2 (c .before .if1 .left), eq-eqb _ 3 (c .if2 .taken))
 
 returns-3 : tie.Need-returns-3
 unfolding decreasing
-returns-3 c = rw (ne-eqb _ 2 (c .before .if1 .left), ne-eqb _ 3 (c .if2 .left))
+returns-3 c = rw (← (c .before .before .step .ensures), ne-eqb _ 2 (c .before .if1 .left), ne-eqb _ 3 (c .if2 .left))
 
 pub decreases-spec : {M : Type 1} → statement M
-decreases-spec = tie.close (tie.spec returns returns-2 returns-3)
+decreases-spec = tie.close (tie.spec step-requires returns returns-2 returns-3)

@@ -32,19 +32,19 @@ returns-3 c = rw (sym (c .before .before .before .before .before .before .beyond
 
 returns-4 : tie.Need-returns-4
 unfolding outOfRange
-returns-4 c = rw (sym (c .before .before .before .before .before .before .before .before .beyond .ensures) ∙ c .before .before .before .before .before .before .before .if1 .left, ne-eqb _ 0 (λ z. c .before .before .before .before .if2 .left (c .before .before .before .before .before .security-type .ensures ∙ z)), le-ltb 1 _ (c .before .before .if3 .left), lt-ltb 6 _ (c .if4 .taken))
+returns-4 c = rw (sym (c .before .before .before .before .before .before .before .before .beyond .ensures) ∙ c .before .before .before .before .before .before .before .if1 .left, ne-eqb _ 0 (λ z. c .before .before .before .before .if2 .left (c .before .before .before .before .before .security-type .ensures ∙ z)), le-ltb 1 _ (c .before .before .if3 .left), lt-ltb 12 _ (c .if4 .taken))
 
 returns-5 : tie.Need-returns-5
 unfolding outOfRange
-returns-5 c = rw (sym (c .before .before .before .before .before .before .before .before .before .before .beyond .ensures) ∙ c .before .before .before .before .before .before .before .before .before .if1 .left, ne-eqb _ 0 (λ z. c .before .before .before .before .before .before .if2 .left (c .before .before .before .before .before .before .before .security-type .ensures ∙ z)), le-ltb 1 _ (c .before .before .before .before .if3 .left), le-ltb 6 _ (c .before .before .if4 .left), eq-eqb _ 0 (c .if5 .taken))
+returns-5 c = rw (sym (c .before .before .before .before .before .before .before .before .before .before .beyond .ensures) ∙ c .before .before .before .before .before .before .before .before .before .if1 .left, ne-eqb _ 0 (λ z. c .before .before .before .before .before .before .if2 .left (c .before .before .before .before .before .before .before .security-type .ensures ∙ z)), le-ltb 1 _ (c .before .before .before .before .if3 .left), le-ltb 12 _ (c .before .before .if4 .left), eq-eqb _ 0 (c .if5 .taken))
 
 returns-6 : tie.Need-returns-6
 unfolding outOfRange
-returns-6 c = rw (sym (c .before .before .before .before .before .before .before .before .before .before .before .before .beyond .ensures) ∙ c .before .before .before .before .before .before .before .before .before .before .before .if1 .left, ne-eqb _ 0 (λ z. c .before .before .before .before .before .before .before .before .if2 .left (c .before .before .before .before .before .before .before .before .before .security-type .ensures ∙ z)), le-ltb 1 _ (c .before .before .before .before .before .before .if3 .left), le-ltb 6 _ (c .before .before .before .before .if4 .left), ne-eqb _ 0 (c .before .before .if5 .left), lt-ltb 100000000 _ (c .if6 .taken))
+returns-6 c = rw (sym (c .before .before .before .before .before .before .before .before .before .before .before .before .beyond .ensures) ∙ c .before .before .before .before .before .before .before .before .before .before .before .if1 .left, ne-eqb _ 0 (λ z. c .before .before .before .before .before .before .before .before .if2 .left (c .before .before .before .before .before .before .before .before .before .security-type .ensures ∙ z)), le-ltb 1 _ (c .before .before .before .before .before .before .if3 .left), le-ltb 12 _ (c .before .before .before .before .if4 .left), ne-eqb _ 0 (c .before .before .if5 .left), lt-ltb 100000000 _ (c .if6 .taken))
 
 returns-7 : tie.Need-returns-7
 unfolding outOfRange
-returns-7 c = rw (sym (c .before .before .before .before .before .before .before .before .before .before .before .before .before .beyond .ensures) ∙ c .before .before .before .before .before .before .before .before .before .before .before .before .if1 .left, ne-eqb _ 0 (λ z. c .before .before .before .before .before .before .before .before .before .if2 .left (c .before .before .before .before .before .before .before .before .before .before .security-type .ensures ∙ z)), le-ltb 1 _ (c .before .before .before .before .before .before .before .if3 .left), le-ltb 6 _ (c .before .before .before .before .before .if4 .left), ne-eqb _ 0 (c .before .before .before .if5 .left), le-ltb 100000000 _ (c .before .if6 .left))
+returns-7 c = rw (sym (c .before .before .before .before .before .before .before .before .before .before .before .before .before .beyond .ensures) ∙ c .before .before .before .before .before .before .before .before .before .before .before .before .if1 .left, ne-eqb _ 0 (λ z. c .before .before .before .before .before .before .before .before .before .if2 .left (c .before .before .before .before .before .before .before .before .before .before .security-type .ensures ∙ z)), le-ltb 1 _ (c .before .before .before .before .before .before .before .if3 .left), le-ltb 12 _ (c .before .before .before .before .before .if4 .left), ne-eqb _ 0 (c .before .before .before .if5 .left), le-ltb 100000000 _ (c .before .if6 .left))
 
 pub out-of-range-spec : {M : Type 1} → statement M
 out-of-range-spec =
