@@ -17,39 +17,56 @@ use Rattle.book.proofs.Opened.{openedBook}
 
 -- ---- loans
 
--- account 1 has lent account 2 40,000, and account 2 has lent account 1 9,000,000,000, in security 3
+-- in security 3: on loan account 1 has lent account 2 40,000 and account 2 has lent account 1 9,000,000,000; on repo 30,000 and
+-- 8,999,999,950
 held : List ℕ
-held = set (set (replicate 8192 0) (256 * 3 + 16 * 1 + 2) 40000) (256 * 3 + 16 * 2 + 1) 9000000000
+held =
+    set (set (set (set (replicate 8192 0)
+    (256 * 3 + 16 * 1 + 2) 40000)
+    (256 * 3 + 16 * 2 + 1) 9000000000)
+    (4096 + 256 * 3 + 16 * 1 + 2) 30000)
+    (4096 + 256 * 3 + 16 * 2 + 1) 8999999950
 
 -- a transfer from account 1 to account 2, or back, in security 3
 sent : ℕ → ℕ → ℕ → ℕ → Transfer
 sent sender receiver code par = record { sender = sender; receiver = receiver; security = 3; class = 0; code = code; par = par }
 
--- sender, receiver, code and par; the two balances after it; whether 7 and 8 apply, as 1 or 0
+-- a transfer; the two balances on loan and the two on repo after it; whether 7 and 8 apply, as 1 or 0
 record Row : Type 0 where
   transfer : Transfer
-  lent : ℕ
-  borrowed : ℕ
+  after : List ℕ
   above : ℕ
   past : ℕ
 
-abbrev row : Transfer → ℕ → ℕ → ℕ → ℕ → Row
-row t l b a p = record { transfer = t; lent = l; borrowed = b; above = a; past = p }
+abbrev row : Transfer → ℕ → ℕ → ℕ → ℕ → ℕ → ℕ → Row
+row t l b r s a p = record { transfer = t; after = l ∷ b ∷ r ∷ s ∷ []; above = a; past = p }
 
 rows : List Row
 rows =
-    row (sent 1 2 0 100) 40000 9000000000 0 0
-    ∷ row (sent 1 2 1 100) 40100 9000000000 0 0
-    ∷ row (sent 1 2 4 100) 40100 9000000000 0 0
-    ∷ row (sent 1 2 5 100) 40100 9000000000 0 0
-    ∷ row (sent 2 1 2 100) 39900 9000000000 0 0
-    ∷ row (sent 2 1 3 40000) 0 9000000000 0 0
-    ∷ row (sent 2 1 6 40001) 0 9000000000 1 0
-    ∷ row (sent 1 2 2 100) 40000 8999999900 0 0
-    ∷ row (sent 1 2 3 100) 40000 8999999900 0 0
-    ∷ row (sent 1 2 6 100) 40000 8999999900 0 0
-    ∷ row (sent 2 1 1 1) 40000 9000000001 0 1
-    ∷ row (sent 1 2 13 100) 40000 9000000000 0 0
+    row (sent 1 2 0 100) 40000 9000000000 30000 8999999950 0 0
+    ∷ row (sent 1 2 1 100) 40100 9000000000 30000 8999999950 0 0
+    ∷ row (sent 1 2 4 100) 40100 9000000000 30000 8999999950 0 0
+    ∷ row (sent 1 2 5 100) 40100 9000000000 30000 8999999950 0 0
+    ∷ row (sent 2 1 2 100) 39900 9000000000 30000 8999999950 0 0
+    ∷ row (sent 2 1 3 40000) 0 9000000000 30000 8999999950 0 0
+    ∷ row (sent 2 1 6 40001) 0 9000000000 30000 8999999950 1 0
+    ∷ row (sent 1 2 2 100) 40000 8999999900 30000 8999999950 0 0
+    ∷ row (sent 1 2 3 100) 40000 8999999900 30000 8999999950 0 0
+    ∷ row (sent 1 2 6 100) 40000 8999999900 30000 8999999950 0 0
+    ∷ row (sent 2 1 1 1) 40000 9000000001 30000 8999999950 0 1
+    ∷ row (sent 1 2 7 100) 40000 9000000000 30100 8999999950 0 0
+    ∷ row (sent 1 2 10 100) 40000 9000000000 30100 8999999950 0 0
+    ∷ row (sent 1 2 11 100) 40000 9000000000 30100 8999999950 0 0
+    ∷ row (sent 2 1 8 100) 40000 9000000000 29900 8999999950 0 0
+    ∷ row (sent 2 1 9 30000) 40000 9000000000 0 8999999950 0 0
+    ∷ row (sent 2 1 12 30001) 40000 9000000000 0 8999999950 1 0
+    ∷ row (sent 2 1 12 35000) 40000 9000000000 0 8999999950 1 0
+    ∷ row (sent 1 2 8 100) 40000 9000000000 30000 8999999850 0 0
+    ∷ row (sent 1 2 9 100) 40000 9000000000 30000 8999999850 0 0
+    ∷ row (sent 1 2 12 100) 40000 9000000000 30000 8999999850 0 0
+    ∷ row (sent 2 1 7 50) 40000 9000000000 30000 9000000000 0 0
+    ∷ row (sent 2 1 11 51) 40000 9000000000 30000 9000000001 0 1
+    ∷ row (sent 1 2 13 100) 40000 9000000000 30000 8999999950 0 0
     ∷ []
 
 flag : Bool → ℕ
@@ -59,8 +76,8 @@ holds : Row → Bool
 holds r =
     let t = r .transfer in
     let after = changed held (changeOf t) (t .par) in
-    eqb (getD after (256 * 3 + 16 * 1 + 2) 0) (r .lent)
-    && eqb (getD after (256 * 3 + 16 * 2 + 1) 0) (r .borrowed)
+    let at : ℕ → ℕ → Bool = λ w n. eqb (getD after w 0) (getD (r .after) n 0) in
+    at (256 * 3 + 16 * 1 + 2) 0 && at (256 * 3 + 16 * 2 + 1) 1 && at (4096 + 256 * 3 + 16 * 1 + 2) 2 && at (4096 + 256 * 3 + 16 * 2 + 1) 3
     && eqb (flag (aboveBalance held (changeOf t) (t .par))) (r .above)
     && eqb (flag (pastLimit held (changeOf t) (t .par))) (r .past)
 
@@ -80,6 +97,8 @@ judged =
     && eqb (number weekdays (replicate 1825 0) 20230404 zeros) 1
     && eqb (number [] [] 0 []) 1
     && eqb (number weekdays caseTables 20230404 (replicate 4096 0)) 1
+    && eqb (number weekdays caseTables 20230404 (replicate 8191 0)) 1
+    && eqb (number weekdays caseTables 20230404 (replicate 8193 0)) 1
     && eqb (number (set weekdays 1 4294967295) (set caseTables 0 9) 20230404 zeros) 2
     && eqb (number weekdays (set caseTables 0 9) 20230405 (set zeros 0 1)) 3
     && eqb (number weekdays caseTables 20230401 zeros) 4
@@ -88,7 +107,12 @@ judged =
     && eqb (number weekdays caseTables 20230404 (set zeros (256 * 3 + 16 * 5 + 5) 1)) 4
     && eqb (number weekdays caseTables 20230404 (set zeros 4094 9000000001)) 4
     && eqb (number weekdays caseTables 20230404 (set zeros 4094 9000000000)) 0
+    && eqb (number weekdays caseTables 20230404 (set zeros (4096 + 85) 1)) 4
+    && eqb (number weekdays caseTables 20230404 (set zeros 8190 9000000001)) 4
+    && eqb (number weekdays caseTables 20230404 (set zeros 8190 9000000000)) 0
+    && eqb (number weekdays caseTables 20230404 (set zeros 8191 1)) 4
     && eqb (firstOf (openingCauses weekdays caseTables (set zeros 0 1) 20230404)) 0
+    && eqb (firstOf (openingCauses weekdays caseTables (replicate 4096 0) 20230404)) 1
     && eqb (firstOf (openingCauses weekdays caseTables (set zeros 0 1) 20230401)) 4
 
 rows-hold : all holds rows && judged ≡ true

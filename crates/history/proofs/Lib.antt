@@ -7,6 +7,7 @@ pub mod Payments
 pub mod Once
 pub mod Theorem
 pub mod Rows
+pub mod RepoRows
 pub mod Answers
 pub mod StaysSound
 pub mod Continuation

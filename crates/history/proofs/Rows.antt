@@ -26,19 +26,19 @@ use Rattle.history.proofs.Opened.{openedHistory}
 -- ---- messages
 
 -- a Contract Date tag, {98A:CNTR/yyyymmdd}
-tag : ℕ → List ℕ
+unfoldable pub tag : ℕ → List ℕ
 tag c =
     123 ∷ 57 ∷ 56 ∷ 65 ∷ 58 ∷ 67 ∷ 78 ∷ 84 ∷ 82 ∷ 47 ∷ (48 + c / 10000000) ∷ (48 + c / 1000000 % 10) ∷ (48 + c / 100000 % 10)
     ∷ (48 + c / 10000 % 10) ∷ (48 + c / 1000 % 10) ∷ (48 + c / 100 % 10) ∷ (48 + c / 10 % 10) ∷ (48 + c % 10) ∷ 125 ∷ []
 
 -- text filled with spaces to a line of 64 bytes
-line : List ℕ → List ℕ
+unfoldable pub line : List ℕ → List ℕ
 line text = take 64 (text ++ replicate 64 32)
 
-tagLine : ℕ → List ℕ
+unfoldable pub tagLine : ℕ → List ℕ
 tagLine c = line (tag c)
 
-blank : List ℕ
+unfoldable pub blank : List ℕ
 blank = line []
 
 -- two tags; a tag without its }; a tag that is no date
@@ -52,7 +52,7 @@ badTag : List ℕ
 badTag = line (tag 20230230)
 
 -- a transfer by its kind, sender, receiver, security, class, code, par, first line and the size of its claim buffer
-sent : ℕ → ℕ → ℕ → ℕ → ℕ → ℕ → ℕ → List ℕ → ℕ → Call
+unfoldable pub sent : ℕ → ℕ → ℕ → ℕ → ℕ → ℕ → ℕ → List ℕ → ℕ → Call
 sent kind sender receiver security class code par first room =
     transfer (record {
       message = (139 ∷ 0 ∷ kind ∷ 0 ∷ sender ∷ receiver ∷ security ∷ class ∷ code ∷ (par % 256) ∷ (par / 256 % 256) ∷ (par / 65536 % 256) ∷ (par / 16777216) ∷ [])
@@ -60,16 +60,16 @@ sent kind sender receiver security class code par first room =
       buffer = replicate room 0;
     })
 
-closing : ℕ → ℕ → Call
+unfoldable pub closing : ℕ → ℕ → Call
 closing kind room = close (record { message = 2 ∷ 0 ∷ kind ∷ 0 ∷ []; buffer = replicate room 0 })
 
 -- ---- rows
 
-zeros : List ℕ
+unfoldable pub zeros : List ℕ
 zeros = replicate 8192 0
 
 -- account 1 has lent account 2 40,000 in security 0
-held : List ℕ
+unfoldable pub held : List ℕ
 held = set zeros 18 40000
 
 -- account 1 has lent account 2 100 less than the largest balance
@@ -84,16 +84,20 @@ lastTables = replicate 1710 0 ++ ((1 ∷ 4 ∷ 20230401 ∷ 20230401 ∷ 2023041
 lateTables : List ℕ
 lateTables = (3 ∷ 1 ∷ 20391230 ∷ 20391230 ∷ 20391230 ∷ 5000000 ∷ []) ++ replicate 1818 0
 
-record CauseRow : Type 0 where
-  calendar : List ℕ
-  tables : List ℕ
-  book : Book
-  balances : List ℕ
-  call : Call
-  number : ℕ
+pub record CauseRow : Type 0 where
+  pub calendar : List ℕ
+  pub tables : List ℕ
+  pub book : Book
+  pub balances : List ℕ
+  pub call : Call
+  pub number : ℕ
 
-abbrev row : List ℕ → List ℕ → ℕ → ℕ → List ℕ → Call → ℕ → CauseRow
+abbrev pub row : List ℕ → List ℕ → ℕ → ℕ → List ℕ → Call → ℕ → CauseRow
 row c t d n b k r = record { calendar = c; tables = t; book = record { day = d; count = n }; balances = b; call = k; number = r }
+
+-- a call gets its row's number
+unfoldable pub numbered : CauseRow → Bool
+numbered r = eqb (numberFor (r .calendar) (r .tables) (r .book) (r .balances) (r .call)) (r .number)
 
 rows : List CauseRow
 rows =
@@ -192,7 +196,7 @@ rows =
     ∷ []
 
 -- an accepted opening sets the count and all balances to zero; a refused one returns day 20000101 and count 0 and leaves the balances
-sevens : List ℕ
+unfoldable pub sevens : List ℕ
 sevens = replicate 8192 7
 
 opening : ℕ → ℕ → ℕ → ℕ → Bool
@@ -252,7 +256,7 @@ expected =
     ++ (found
     ++ ((0 ∷ 20230404 ∷ 4 ∷ 0 ∷ []) ++ found))))))))
 
-sameNumbers : List ℕ → List ℕ → Bool
+unfoldable pub sameNumbers : List ℕ → List ℕ → Bool
 sameNumbers [] [] = true
 sameNumbers [] (y ∷ ys) = false
 sameNumbers (x ∷ xs) [] = false
@@ -272,12 +276,12 @@ interimCalls : List Call
 interimCalls = sent 1 1 2 0 0 0 100000 blank 105 ∷ sent 1 1 2 0 0 0 100000 (tagLine 20230915) 105 ∷ []
 
 -- the entries of calls, the latest first
-entries : ℕ → List Call → List Entry
+unfoldable pub entries : ℕ → List Call → List Entry
 entries day [] = []
 entries day (call ∷ calls) = entries day calls ++ (record { day = day; call = call } ∷ [])
 
 -- number and claim count of each answer
-counted : List Answer → List ℕ
+unfoldable pub counted : List Answer → List ℕ
 counted [] = []
 counted (a ∷ answers) = a .number ∷ a .claims ∷ counted answers
 
@@ -331,7 +335,7 @@ laterAnswers =
     ++ (0 ∷ 20230404 ∷ 2 ∷ 1 ∷ 33 ∷ 0 ∷ 3 ∷ 0 ∷ 3 ∷ 0 ∷ 2 ∷ 1 ∷ 0 ∷ 0 ∷ 0 ∷ 0 ∷ 0 ∷ 0 ∷ 64 ∷ 156 ∷ 0 ∷ 0 ∷ 0 ∷ 0 ∷ 0 ∷ 0 ∷ 0 ∷ 0 ∷ 0 ∷ 0 ∷ 0 ∷ 0 ∷ 0 ∷ 0 ∷ 17 ∷ 177 ∷ 52 ∷ 1 ∷ 3 ∷ 7 ∷ []))
 
 -- from account 2 to account 1 in security 0
-borrowerToLender : Parties
+unfoldable pub borrowerToLender : Parties
 borrowerToLender = record { security = 0; payee = 1; payer = 2 }
 
 -- the later calls pay and owe the later coupon on the par of the loan before them, and not the earlier coupon again
@@ -348,12 +352,12 @@ periods =
 -- ---- the theorems
 
 -- what the theorems open
-unfoldable openedRows : ℕ
+unfoldable pub openedRows : ℕ
 unfolding openedHistory tag line tagLine blank twoTags openTag badTag sent closing zeros sevens
 openedRows = 0
 
-rows-hold : openings && all (λ r. eqb (numberFor (r .calendar) (r .tables) (r .book) (r .balances) (r .call)) (r .number)) rows ≡ true
-unfolding openedRows held near lastTables lateTables threeRows delays rows opening openings
+rows-hold : openings && all numbered rows ≡ true
+unfolding openedRows held near lastTables lateTables threeRows delays numbered rows opening openings
 rows-hold = refl
 
 history-holds : history ≡ true
