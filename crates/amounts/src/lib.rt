@@ -34,7 +34,7 @@ const SETTLE: u8 = 0;
 // A notice: both amounts are zero.
 const NOTHING: u8 = 1;
 
-// A notice: the payment redeems a security on loan.
+// A notice: the payment redeems a security on loan or on repo.
 const REDEEMED: u8 = 2;
 
 // A notice: the payer's mask bit is on.

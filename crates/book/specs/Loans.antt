@@ -1,4 +1,4 @@
--- Document 01, section Loans: what a transfer does to the par on loan.
+-- Document 01, section Loans, and document 02, card 3: what a transfer does to the par on loan and on repo.
 use mathlib.Core.Bool.{Bool, false, cond, _||_}
 use mathlib.Core.List.{List, [], _∷_}
 use Prim.Native.Nat.{ℕ, _+_, _-_}

@@ -1,4 +1,4 @@
--- Document 01, section Close: the rows that a close crosses and the claims on the par on loan.
+-- Document 01, section Close, and document 02, card 3: the rows that a close crosses and the claims on the par on loan and on repo.
 use mathlib.Core.Bool.{Bool, cond, _&&_}
 use mathlib.Core.List.{List, [], _∷_}
 use Prim.Native.Nat.{ℕ, _+_, _*_}

@@ -1,5 +1,5 @@
-// The close call (document 01, section Close): the day moves to the next open day, and the par on loan at each Record Date that is
-// crossed gives its claims.
+// The close call (document 01, section Close): the day moves to the next open day, and the par on loan and on repo at each Record Date
+// that is crossed gives its claims.
 ghost use mathlib.Core.Path.{_≡_};
 ghost use mathlib.Core.Bool.{true};
 ghost use lib.ListN.{length};

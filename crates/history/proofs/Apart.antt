@@ -1,21 +1,20 @@
 -- Lending and repo never change each other: the word that an accepted transfer writes is one of its code's own tracking.
-use mathlib.Core.Path.{_≡_, refl, sym, ap, _∙_}
+use mathlib.Core.Path.{_≡_, refl, sym, _∙_}
 use mathlib.Core.Logic.{_≢_}
 use mathlib.Core.Bool.{Bool, true, false, cond, true≢false}
 use mathlib.Core.List.{List, [], _∷_}
 use Prim.Native.Nat.{ℕ, zero, suc, _+_, _*_, _≤_, _<_}
 use native.Mathlib.Omega.{arith}
-use lib.ListN.{getD, set}
+use lib.ListN.{getD}
 use lib.Seq.{getD-set-other}
 use Rattle.records.specs.declared.Transfer.{Transfer}
 use Rattle.records.specs.MessageRecords.{transferOf}
-use Rattle.book.specs.declared.Book.{Book}
-use Rattle.book.specs.Book.{Position, InRange, word}
-use Rattle.book.specs.Loans.{trackingOf, stepOf, increasing, decreasing, Change, unchanged, increase, decrease, bySender, byReceiver, changeOf, changed}
+use Rattle.book.specs.Book.{word}
+use Rattle.book.specs.Loans.{trackingOf, stepOf, increasing, decreasing, unchanged, increase, decrease, bySender, byReceiver, changeOf, changed}
 use Rattle.history.specs.Calls.{Call, transfer, close}
 use Rattle.history.specs.Causes.{numberFor}
 use Rattle.history.specs.Results.{nextBalances, resultFor, result, run}
-use Rattle.history.specs.Apart.{OfTracking, NotOf, NoneOf, Kept, EveryCallApart, EveryListApart}
+use Rattle.history.specs.Apart.{OfTracking, NotOf, EveryCallApart, EveryListApart}
 use Rattle.history.proofs.Accepted.{Fields, taken}
 use Rattle.history.proofs.Balances.{code-parts, step-bound}
 

@@ -1,12 +1,11 @@
 -- A history goes on from any sound ledger: the laws of every list of calls hold from any ledger on, and what is owed by the entries since
 -- then is what is owed by all less what is owed by those before.
 use mathlib.Core.Path.{_≡_, refl, ap}
-use mathlib.Core.Bool.{Bool, true}
+use mathlib.Core.Bool.{Bool}
 use mathlib.Core.List.{List, [], _∷_, _++_}
 use Prim.Native.Nat.{ℕ, zero, suc, _+_}
 use native.Mathlib.Nat.{zero-add}
 use native.Mathlib.Omega.{arith}
-use lib.Dec.{eqb}
 use Rattle.securities.specs.Securities.{Row}
 use Rattle.claims.specs.Amounts.{Part, Parties}
 use Rattle.book.specs.declared.Book.{Book}

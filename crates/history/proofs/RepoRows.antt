@@ -14,7 +14,7 @@ use Rattle.history.specs.Calls.{Call}
 use Rattle.history.specs.Results.{Answer, opened, runFrom}
 use Rattle.history.specs.Owed.{owed}
 use Rattle.history.specs.Statement.{recordsIn, paid, ofTypeAndRow, ofAll}
-use Rattle.history.proofs.Rows.{tag, line, tagLine, blank, sent, closing, zeros, sevens, held, CauseRow, row, numbered, entries, counted, sameNumbers, borrowerToLender, openedRows}
+use Rattle.history.proofs.Rows.{tagLine, blank, sent, closing, zeros, sevens, held, CauseRow, row, numbered, entries, counted, sameNumbers, borrowerToLender, openedRows}
 
 -- ---- numbers
 

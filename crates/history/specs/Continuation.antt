@@ -8,10 +8,9 @@
 -- lives for years gets new tables. `owed` and `CrossedOnce` of a whole history speak of one calendar and tables; over such a change it is
 -- each period that owes and crosses by its own.
 use mathlib.Core.Path.{_≡_}
-use mathlib.Core.Bool.{Bool, true}
+use mathlib.Core.Bool.{Bool}
 use mathlib.Core.List.{List, [], _∷_, _++_}
 use Prim.Native.Nat.{ℕ, _+_, _*_, _≤_, _<_}
-use lib.Dec.{eqb}
 use lib.ListN.{getD}
 use Rattle.securities.specs.Securities.{Row}
 use Rattle.claims.specs.Amounts.{Part, Parties}

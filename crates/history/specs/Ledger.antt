@@ -1,5 +1,5 @@
 -- The ledger of accepted calls: document 01's tally. It keeps a day and the accepted calls, each with its day, the latest first. It
--- stores no balance: the par on loan is added up anew from the accepted messages' own fields.
+-- stores no balance: the par on loan and on repo is added up anew from the accepted messages' own fields.
 use mathlib.Core.Bool.{Bool, cond, _&&_, _||_}
 use mathlib.Core.List.{List, [], _∷_}
 use Prim.Native.Nat.{ℕ, zero, suc, _+_, _-_, _*_}
@@ -29,7 +29,7 @@ pub record Ledger : Type 0 where
 unfoldable pub started : ℕ → Ledger
 started day = record { day = day; entries = [] }
 
--- ---- the par on loan
+-- ---- the par on loan and on repo
 
 -- An increase from the lender to the borrower: code 1, 4 or 5 on loan, 7, 10 or 11 on repo, sent by the lender, received by the
 -- borrower, in the security.
@@ -59,7 +59,7 @@ increases es p = sum (λ e. increasedBy p (e .call)) es
 unfoldable pub decreases : List Entry → Position → ℕ
 decreases es p = sum (λ e. decreasedBy p (e .call)) es
 
--- The par that the lender has lent the borrower.
+-- The par that the lender has lent the borrower, in the position's tracking.
 unfoldable pub parLent : List Entry → Position → ℕ
 parLent es p = increases es p - decreases es p
 

@@ -1,5 +1,6 @@
-// The claims of a close on the par on loan (document 01, section Close), counted and stored by one set of loops: a pass with write
-// false counts them, one with write true stores them too. Calendar and tables are sound, and balances are at most 9,000,000,000.
+// The claims of a close on the par on loan and on repo (document 01, section Close; document 02, card 3), counted and stored by one set
+// of loops: a pass with write false counts them, one with write true stores them too. Calendar and tables are sound, and balances are at
+// most 9,000,000,000.
 ghost use mathlib.Core.Path.{_≡_};
 ghost use mathlib.Core.Bool.{true};
 ghost use Prim.Native.Nat.{_≤_, _<_};
@@ -14,7 +15,7 @@ use amounts::claim_on;
 use amounts::put_claim;
 use records::Dollars;
 
-// The claim of a borrower on a row: none where no par is on loan.
+// The claim of a type on a row that a borrower pays: none where there is no par.
 fn pass_loan(
     write: bool,
     buffer: &mut [u8],
@@ -100,7 +101,7 @@ fn pass_lender(
     m
 }
 
-// The claims of a type on a row, by lender and borrower; held is the balances of its security.
+// The claims of a type on a row, by lender and borrower; held is the balances of its tracking in its security.
 fn pass_tracking(
     write: bool,
     buffer: &mut [u8],

@@ -1,4 +1,5 @@
-// The loans of transfers (document 01, section Loans): what is posted to the balances, with the numbers 7 and 8 of what can be refused.
+// The loans and repos of transfers (document 01, section Loans; document 02, card 3): what is posted to the balances, with the numbers 7
+// and 8 of what can be refused.
 ghost use mathlib.Core.Path.{_≡_};
 ghost use Prim.Native.Nat.{_<_};
 ghost use lib.ListN.{length};

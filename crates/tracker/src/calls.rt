@@ -36,8 +36,8 @@ pub extern "C" fn claim_tracker_transfer(
     transfers::transfer(calendar, tables, book, balances, message, claims)
 }
 
-// Works a close: the day moves to the next open day, and the lending claims of the Record Dates crossed are written from the claim
-// buffer's start. Refused, it returns the first number that applies and the book given, and leaves balances and claim buffer.
+// Works a close: the day moves to the next open day, and the lending and repo claims of the Record Dates crossed are written from the
+// claim buffer's start. Refused, it returns the first number that applies and the book given, and leaves balances and claim buffer.
 #[no_mangle]
 pub extern "C" fn claim_tracker_close(
     calendar: &[u32],

@@ -1,12 +1,9 @@
--- The loop keeps that the claims of the securities below s are passed; each is handed its part of the balances.
-use mathlib.Core.Path.{_≡_}
-use Prim.Native.Nat.{_+_, _-_, _*_}
-use Rattle.lists.specs.Fields.{part, part-length}
+-- The loop keeps that the claims of the securities below s are passed.
+use Prim.Native.Nat.{_-_}
 use Rattle.claims.specs.Passes.{Turning, turn-start, turn-free, turn-step, turn-end}
 use Rattle.claims.specs.Turns.{securityClaims}
-use Rattle.claims.proofs.Turns.{close-turns, small-part}
+use Rattle.claims.proofs.Turns.{close-turns}
 use borrow.Author.Needs.{needs}
-use native.Mathlib.Omega.{arith}
 use Rattle.lending.proofs.pass_close.Statement.{statement}
 use Rattle.lending.proofs.pass_close.Tie as tie
 
