@@ -213,7 +213,8 @@ module _ (calendar tables : List ℕ) where
 
   -- the word of a position holds its par
   pub stored-lent : (balances : List ℕ) (es : List Entry) (p : Position) → InRange p → balances ≡ layout (parLent es) → decreases es p ≤ increases es p
-      → getD balances (4096 * p .tracking + 256 * p .security + 16 * p .lender + p .borrower) 0 + decreases es p ≡ increases es p
+      → getD balances (4096 * p .tracking + 256 * p .security + 16 * p .lender + p .borrower) 0 + decreases es p
+      ≡ increases es p
   unfolding parLent
   stored-lent balances es p k e h =
       let w : getD balances (4096 * p .tracking + 256 * p .security + 16 * p .lender + p .borrower) 0 ≡ parLent es p =

@@ -1,12 +1,11 @@
 -- A history that goes on, in words. Take any ledger that is sound: the decreases it has accepted are nowhere more than the increases,
 -- also before each kept call, and only positions of the book were increased. From its book and balances on, with any calendar and tables,
 -- every answer and the book and balances after the list are those of the ledger that goes on. The par between two accounts counts the
--- calls before and the calls since. What the records from then on pay is what the calls from then on owe, for each claim type, each row
--- and all; a
--- close since then is on the par of all calls before it, those before the change too. Every Record Date passed since then is crossed
--- exactly once. The ledger stays sound, so calendar and tables may change any number of times: a security has 16 rows, so a book that
--- lives for years gets new tables. `owed` and `CrossedOnce` of a whole history speak of one calendar and tables; over such a change it is
--- each period that owes and crosses by its own.
+-- calls before and the calls since. What the records from then on pay is what the calls from then on owe, for each claim type on each row,
+-- for each row and for all; a close since then is on the par of all calls before it, those before the change too. Every Record Date passed
+-- since then is crossed exactly once. The ledger stays sound, so calendar and tables may change any number of times: a security has 16
+-- rows, so a book that lives for years gets new tables. `owed` and `CrossedOnce` of a whole history speak of one calendar and tables; over
+-- such a change it is each period that owes and crosses by its own.
 use mathlib.Core.Path.{_≡_}
 use mathlib.Core.Bool.{Bool}
 use mathlib.Core.List.{List, [], _∷_, _++_}
@@ -48,7 +47,8 @@ pub record GoesOn (calendar tables : List ℕ) (before : Ledger) (calls : List C
   pub book : r .book ≡ bookOf (j .ledger)
   pub balances : r .balances ≡ balancesOf (j .ledger)
   pub lent : (p : Position) → InRange p
-      → getD (r .balances) (4096 * p .tracking + 256 * p .security + 16 * p .lender + p .borrower) 0 + decreases (j .ledger .entries) p ≡ increases (j .ledger .entries) p
+      → getD (r .balances) (4096 * p .tracking + 256 * p .security + 16 * p .lender + p .borrower) 0 + decreases (j .ledger .entries) p
+      ≡ increases (j .ledger .entries) p
   -- The counted records read, and add up to what the entries since then owe: for each claim type on each row, for each row, and for all.
   pub readable : AllRead (recordsIn (r .answers))
   pub type-payments : (part : Part) (x : Parties) (claimType row : ℕ)

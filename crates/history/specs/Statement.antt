@@ -4,9 +4,9 @@
 -- the ledger of accepted calls. For any two accounts and security the par lent and the accepted decreases together are the accepted
 -- increases, on loan and on repo apart. The records, read back from the claim buffers, add up to what the history owes, interest and
 -- principal apart: for every payer, payee and security, for each row of it, and for each claim type on each row, so that claims on par
--- on loan and claims on par on repo pay each their own. Every Record Date passed is crossed exactly once, no
--- transfer claims a Beneficiary Date twice, be it as failed or as interim, its claims come in row order, no close claims a row twice,
--- and a call is refused exactly when a cause of its table applies, and then changes nothing.
+-- on loan and claims on par on repo pay each their own. Every Record Date passed is crossed exactly once, no transfer claims a
+-- Beneficiary Date twice, be it as failed or as interim, its claims come in row order, no close claims a row twice, and a call is refused
+-- exactly when a cause of its table applies, and then changes nothing.
 use mathlib.Core.Path.{_≡_}
 use mathlib.Core.Logic.{_↔_, _≢_}
 use mathlib.Core.Bool.{Bool, true, cond, _&&_}
@@ -126,7 +126,8 @@ pub record AgreesWithLedger (calendar tables : List ℕ) (start : ℕ) (calls : 
   pub balances : r .balances ≡ balancesOf (j .ledger)
   pub words : length (r .balances) ≡ 8192
   pub lent : (p : Position) → InRange p
-      → getD (r .balances) (4096 * p .tracking + 256 * p .security + 16 * p .lender + p .borrower) 0 + decreases (j .ledger .entries) p ≡ increases (j .ledger .entries) p
+      → getD (r .balances) (4096 * p .tracking + 256 * p .security + 16 * p .lender + p .borrower) 0 + decreases (j .ledger .entries) p
+      ≡ increases (j .ledger .entries) p
   pub lent-before : BalancedBefore (j .ledger .entries)
   -- The counted records read, and add up to what the history owes: for each claim type on each row, for each row, and for all together.
   pub readable : AllRead (recordsIn (r .answers))
