@@ -40,12 +40,13 @@ def repo_facts(call, result) -> set:
     """What a call shows of the words of repos: half a book refused, repos cleared by an opening, 4 for repos alone."""
     loans, repos = (call["balances"][at:at + step_files.REPO_AT] for at in (0, step_files.REPO_AT))
     facts = set()
-    if result.number == 1 and len(loans) == step_files.REPO_AT and not repos:
-        facts.add("half a book")
     if call["kind"] == 0 and result.number == 0 and any(repos):
         facts.add("cleared")
-    if result.number == 4 and make_calls.run(dict(call, balances=loans + [0] * len(repos))).number != 4:
-        facts.add("past the limit" if max(repos) > ref.LARGEST_BALANCE else "with itself")
+    if result.number in (1, 4) and make_calls.run(dict(call, balances=loans + [0] * step_files.REPO_AT)).number != result.number:
+        if result.number == 4:
+            facts.add("past the limit" if max(repos) > ref.LARGEST_BALANCE else "with itself")
+        elif not repos:
+            facts.add("half a book")
     return {("repos", fact, CALLS[call["kind"]]) for fact in facts}
 
 

@@ -4,8 +4,8 @@
 
 writes FOLDER/NAME.stream for each stream: the bytes of book.dat, the input, all that claimrun writes, and the places where the input is
 cut into pieces (four bytes each), each of the four parts behind its length of four bytes. tests/claimrun/data holds the files, packed by
-gzip -9n. It fails where a claim type in force is missing, a row that card 2 drops, a paid row claimed behind one that waits, or a tracking
-code that is accepted.
+gzip -9n. It fails where a claim type in force is missing, an accepted transfer of a code, a row that card 2 drops, or a paid row claimed
+behind one that waits.
 """
 import os
 import random
