@@ -28,10 +28,10 @@ int main(void) {
     memset(lines, ' ', sizeof lines);
     memcpy(lines[0], "{98A:CNTR/20230315}", 19);
     open_weekdays();
-    struct claim_tracker_done done = claim_tracker_open(calendar, 480, tables, 1824, balances, 4096, 20230404);
+    struct claim_tracker_done done = claim_tracker_open(calendar, 480, tables, 1824, balances, CLAIM_TRACKER_BALANCE_WORDS, 20230404);
     if (claim_tracker_write_transfer(message, sizeof message, fields, lines[0], lines[1]) != 0) return 1;
     if (done.number == 0)
-        done = claim_tracker_transfer(calendar, 480, tables, 1824, done.book, balances, 4096,
+        done = claim_tracker_transfer(calendar, 480, tables, 1824, done.book, balances, CLAIM_TRACKER_BALANCE_WORDS,
                                       message, sizeof message, claims, sizeof claims);
     printf("%u %s, transfer %u\n", done.number, claim_tracker_text(done.number), done.book.count);
     for (size_t i = 0; i < done.claims; i++) {

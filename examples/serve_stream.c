@@ -33,7 +33,7 @@ static int failed(const char *words) {
 int main(int count, char **arguments) {
     const uint32_t *calendar = words, *tables = words + CLAIM_TRACKER_CALENDAR_WORDS, *day = tables + CLAIM_TRACKER_TABLE_WORDS;
     struct claim_tracker_done opened = {.number = read_book(count == 2 ? arguments[1] : "book.dat")};
-    if (opened.number == 0) opened = claim_tracker_open(calendar, 480, tables, 1824, balances, 4096, *day);
+    if (opened.number == 0) opened = claim_tracker_open(calendar, 480, tables, 1824, balances, CLAIM_TRACKER_BALANCE_WORDS, *day);
     if (opened.number != 0) {
         if (claim_tracker_write_answer(output, sizeof output, (struct claim_tracker_answer){opened.number}) != 0) return 1;
         return fwrite(output, 1, CLAIM_TRACKER_ANSWER_BYTES, stdout) != CLAIM_TRACKER_ANSWER_BYTES;
@@ -43,7 +43,8 @@ int main(int count, char **arguments) {
     bool ended = false;
     for (;;) {
         struct claim_tracker_served served =
-            claim_tracker_serve(calendar, 480, tables, 1824, book, balances, 4096, input, held, ended, output, sizeof output);
+            claim_tracker_serve(calendar, 480, tables, 1824, book, balances, CLAIM_TRACKER_BALANCE_WORDS, input, held, ended, output,
+                                sizeof output);
         if (served.number != 0) return failed(claim_tracker_text(served.number));
         if (fwrite(output, 1, served.written, stdout) != served.written || fflush(stdout) != 0) return failed("standard output");
         book = served.book;

@@ -1,4 +1,5 @@
-/* The claim tracker: fails, interim claims and loaned securities of one book of 16 accounts and 16 securities, each numbered from 0 to 15.
+/* The claim tracker: fails, interim claims, loaned securities and repos of one book of 16 accounts and 16 securities, each numbered from 0
+   to 15.
 
    Link with -lclaim_tracker (x86-64 Linux). FORMATS.md among the documents says the same at more length.
 
@@ -16,9 +17,9 @@
    open day. Tables that break this are refused with 3. An agency MBS with the coupons of April and May 2023, half a cent on the dollar:
        3, 1,  20230401, 20230401, 20230415, 5000000, 0, 0, 0,  20230501, 20230501, 20230515, 5000000, 0, 0, 0,  then zeros
 
-   A book: its day, the number of its accepted transfers, and 4,096 words of balances: word 256 * s + 16 * l + b is the par of security s
-   that account l has lent to account b, at most 9,000,000,000, and zero where l is b. Its day is open and an open day follows it. All of
-   it is the caller's, who may store it and go on later.
+   A book: its day, the number of its accepted transfers, and 8,192 words of balances: word 4096 * k + 256 * s + 16 * l + b is the par of
+   security s that account l has lent to account b, k 0 on loan, 1 on repo, at most 9,000,000,000, and zero where l is b. Its day is open
+   and an open day follows it. All of it is the caller's, who may store it and go on later.
 
    book.dat, 9,220 bytes: the calendar, the tables and the opening day, in this order, each word of 4 bytes.
 
@@ -27,12 +28,12 @@
        of free text (64 bytes each)
      kind 2, close, 4 bytes: 02 00 02 00
      kind 3, claim, 35 bytes: 21 00 03 00, claim type, outcome, payer, payee, security, row (1 byte each), transfer number (4 bytes, 0 in
-       a lending claim), interest and principal in cents (8 bytes each), release date (4 bytes, 0 in a notice), slot (1 byte)
+       a lending or repo claim), interest and principal in cents (8 bytes each), release date (4 bytes, 0 in a notice), slot (1 byte)
      kind 4, answer, 6 bytes: 04 00 04 00, number (2 bytes)
 
    The Contract Date of a transfer stands in one of its two lines, anywhere, wholly within the line: {98A:CNTR/20230315} for 15 March 2023.
 
-   Buffers of claims: a transfer gives at most 16 claims, one for each row of its security, a close at most 61,440;
+   Buffers of claims: a transfer gives at most 16 claims, one for each row of its security, a close at most 122,880;
    CLAIM_TRACKER_CLAIM_ROOM(n) is the size for n. A call whose claims do not fit is refused with 10 and has changed nothing: call again with
    a larger buffer. claim_tracker_serve, and with it the program claimrun, has 64 KiB for the claims of each record: a close with more than
    1,872 is answered with 10, the day stays, and claim_tracker_close with a larger buffer can work it.
@@ -52,9 +53,9 @@
 #include <stdint.h>
 
 #define CLAIM_TRACKER_VERSION_MAJOR 1
-#define CLAIM_TRACKER_VERSION_MINOR 2
+#define CLAIM_TRACKER_VERSION_MINOR 3
 #define CLAIM_TRACKER_VERSION_PATCH 0
-#define CLAIM_TRACKER_VERSION "1.2.0"
+#define CLAIM_TRACKER_VERSION "1.3.0"
 
 /* Every function answers a number that a caller has to look at, and takes no null pointer; compilers that can, watch over both. */
 #if defined(__GNUC__)
@@ -88,7 +89,7 @@ enum {
     CLAIM_TRACKER_SECURITY_WORDS = 114,
     CLAIM_TRACKER_CALENDAR_WORDS = 480,
     CLAIM_TRACKER_TABLE_WORDS = 1824,
-    CLAIM_TRACKER_BALANCE_WORDS = 4096
+    CLAIM_TRACKER_BALANCE_WORDS = 8192
 };
 
 /* Bytes of the records, of a line of free text and of book.dat, and the output that claim_tracker_serve needs for a record. */
@@ -105,7 +106,7 @@ enum {
 /* The most claims of one call, and the bytes for n claims. */
 enum {
     CLAIM_TRACKER_MOST_TRANSFER_CLAIMS = 16,
-    CLAIM_TRACKER_MOST_CLOSE_CLAIMS = 61440
+    CLAIM_TRACKER_MOST_CLOSE_CLAIMS = 122880
 };
 #define CLAIM_TRACKER_CLAIM_ROOM(n) ((size_t)CLAIM_TRACKER_CLAIM_BYTES * (size_t)(n))
 
@@ -119,16 +120,16 @@ enum claim_tracker_number {
     CLAIM_TRACKER_BAD_BOOK = 4,                 /* the day is not open or no open day follows it; a balance is above 9,000,000,000, or an
                                                    account's with itself is not 0 */
     CLAIM_TRACKER_BAD_RECORD = 5,               /* the record is cut short, or its length or kind is not the call's */
-    CLAIM_TRACKER_BAD_FIELD = 6,                /* an account or a security above 15, an unused security, a class above 1, a code above 6, a
-                                                   par of 0 or above 100,000,000, or the sender is the receiver */
+    CLAIM_TRACKER_BAD_FIELD = 6,                /* an account or a security above 15, an unused security, a class above 1, a code above 12,
+                                                   a par of 0 or above 100,000,000, or the sender is the receiver */
     CLAIM_TRACKER_SEVERAL_TAGS = 132,           /* more than one {98A:CNTR/ in the two lines */
     CLAIM_TRACKER_UNENDED_TAG = 133,            /* no } behind it in its line */
     CLAIM_TRACKER_TAG_WITHOUT_DATE = 135,       /* not eight digits that are a date */
     CLAIM_TRACKER_CONTRACT_DATE_AFTER_DAY = 138, /* the Contract Date is after the book's day */
     CLAIM_TRACKER_CONTRACT_DATE_NOT_DAY = 139,  /* class 1, and the Contract Date is not the book's day */
     CLAIM_TRACKER_COUNT_FULL = 11,              /* 4,294,967,295 transfers are accepted already */
-    CLAIM_TRACKER_ABOVE_BALANCE = 7,            /* a decrease above what is lent */
-    CLAIM_TRACKER_PAST_LIMIT = 8,               /* an increase past 9,000,000,000 */
+    CLAIM_TRACKER_ABOVE_BALANCE = 7,            /* a decrease above what is on loan, or on repo, by its code */
+    CLAIM_TRACKER_PAST_LIMIT = 8,               /* an increase past 9,000,000,000 on loan, or on repo, by its code */
     CLAIM_TRACKER_LAST_DAY = 9,                 /* a close, and no open day follows the day that it would go to */
     CLAIM_TRACKER_NO_ROOM = 10                  /* the claims, or the record written, do not fit the buffer */
 };
@@ -149,7 +150,7 @@ enum claim_tracker_class {
 
 /* The tracking code of a transfer. A transfer without one may give interim claims and, where it has a Contract Date, fail claims. SLST,
    CLSR and ADSL add par to what the sender has lent the receiver; SLRV, CLSL and ADSR take par from what the receiver has lent the
-   sender. */
+   sender. Codes 7 to 12 do the same on repo; par on loan and par on repo stand apart. */
 enum claim_tracker_code {
     CLAIM_TRACKER_CODE_NONE = 0,
     CLAIM_TRACKER_CODE_SLST = 1,                /* a loan's start */
@@ -157,7 +158,13 @@ enum claim_tracker_code {
     CLAIM_TRACKER_CODE_CLSL = 3,                /* a loan's return */
     CLAIM_TRACKER_CODE_CLSR = 4,                /* reversal of a return */
     CLAIM_TRACKER_CODE_ADSL = 5,                /* the balance alone, up */
-    CLAIM_TRACKER_CODE_ADSR = 6                 /* the balance alone, down */
+    CLAIM_TRACKER_CODE_ADSR = 6,                /* the balance alone, down */
+    CLAIM_TRACKER_CODE_RPST = 7,                /* a repo's start */
+    CLAIM_TRACKER_CODE_RPRV = 8,                /* reversal of a start */
+    CLAIM_TRACKER_CODE_CLRP = 9,                /* a repo's close */
+    CLAIM_TRACKER_CODE_CLRV = 10,               /* reversal of a close */
+    CLAIM_TRACKER_CODE_ADRP = 11,               /* the balance alone, up */
+    CLAIM_TRACKER_CODE_ADRV = 12                /* the balance alone, down */
 };
 
 /* The type of a claim. In an MBS (types 3 and 4) a fail claims, of its rows whose Payment Date is after the book's day, the first alone;
@@ -167,7 +174,8 @@ enum claim_tracker_code {
 enum claim_tracker_claim_type {
     CLAIM_TRACKER_CLAIM_TYPE_FAIL = 1,
     CLAIM_TRACKER_CLAIM_TYPE_INTERIM = 2,
-    CLAIM_TRACKER_CLAIM_TYPE_LENDING = 3
+    CLAIM_TRACKER_CLAIM_TYPE_LENDING = 3,
+    CLAIM_TRACKER_CLAIM_TYPE_REPO = 4
 };
 
 /* What becomes of a claim: it settles, or it is a notice for the first reason that applies. A notice keeps its amounts and has release date
@@ -175,7 +183,7 @@ enum claim_tracker_claim_type {
 enum claim_tracker_outcome {
     CLAIM_TRACKER_OUTCOME_SETTLES = 0,
     CLAIM_TRACKER_OUTCOME_ZERO = 1,             /* both amounts are zero */
-    CLAIM_TRACKER_OUTCOME_FINAL = 2,            /* a lending claim on a payment that redeems the security */
+    CLAIM_TRACKER_OUTCOME_FINAL = 2,            /* a lending or repo claim on a payment that redeems the security */
     CLAIM_TRACKER_OUTCOME_RESTRICTED = 3        /* the payer's payment went to a non-interest-bearing account */
 };
 
@@ -246,7 +254,7 @@ static inline const char *claim_tracker_text(unsigned int number) {
     }
 }
 
-/* A book's day and the number of its accepted transfers; its balances are the caller's 4,096 words. */
+/* A book's day and the number of its accepted transfers; its balances are the caller's 8,192 words. */
 struct claim_tracker_book {
     uint32_t day;
     uint32_t count;
@@ -340,9 +348,9 @@ struct claim_tracker_done claim_tracker_transfer(const uint32_t *calendar, size_
                                                  size_t balance_words, const uint8_t *message, size_t message_bytes, uint8_t *claims,
                                                  size_t claim_bytes);
 
-/* Works the close at the message's start: moves the day to the next open day and writes the lending claims of the Record Dates crossed
-   from the claim buffer's start; the bytes behind them stay. Refused: the number, the book given, no claims, and balances and claim
-   buffer as they were. */
+/* Works the close at the message's start: moves the day to the next open day and writes the claims of the Record Dates crossed, of each
+   first those of lending and then those of repo, from the claim buffer's start; the bytes behind them stay. Refused: the number, the book
+   given, no claims, and balances and claim buffer as they were. */
 CLAIM_TRACKER_CALL CLAIM_TRACKER_NONNULL
 struct claim_tracker_done claim_tracker_close(const uint32_t *calendar, size_t calendar_words, const uint32_t *tables, size_t table_words,
                                               struct claim_tracker_book book, uint64_t *balances, size_t balance_words,

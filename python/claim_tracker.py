@@ -14,7 +14,7 @@ from dataclasses import dataclass
 from enum import IntEnum
 from typing import NamedTuple
 
-__version__ = "1.2.0"
+__version__ = "1.3.0"
 
 ACCOUNTS = 16
 SECURITIES = 16
@@ -23,7 +23,7 @@ ROW_WORDS = 7
 SECURITY_WORDS = 114
 CALENDAR_WORDS = 480
 TABLE_WORDS = 1824
-BALANCE_WORDS = 4096
+BALANCE_WORDS = 8192
 TRANSFER_BYTES = 141
 CLOSE_BYTES = 4
 CLAIM_BYTES = 35
@@ -32,7 +32,7 @@ LINE_BYTES = 64
 BOOK_FILE_BYTES = 9220
 RECORD_ROOM = 65542
 MOST_TRANSFER_CLAIMS = 16
-MOST_CLOSE_CLAIMS = 61440
+MOST_CLOSE_CLAIMS = 122880
 
 
 # ---- enumerations
@@ -81,6 +81,12 @@ class Code(IntEnum):
     CLSR = 4
     ADSL = 5
     ADSR = 6
+    RPST = 7
+    RPRV = 8
+    CLRP = 9
+    CLRV = 10
+    ADRP = 11
+    ADRV = 12
 
 
 class ClaimType(IntEnum):
@@ -88,6 +94,7 @@ class ClaimType(IntEnum):
     FAIL = 1
     INTERIM = 2
     LENDING = 3
+    REPO = 4
 
 
 class Outcome(IntEnum):
@@ -382,7 +389,7 @@ def claim_room(claims):
 
 
 def new_balances():
-    """4,096 balances of 0."""
+    """8,192 balances of 0."""
     return array("Q", bytes(8 * BALANCE_WORDS))
 
 
@@ -436,7 +443,7 @@ def transfer(calendar, tables, book, balances, message, claims):
 
 
 def close(calendar, tables, book, balances, message, claims):
-    """Works a close: the day moves to the next open day, and its lending claims are written from the start of claims."""
+    """Works a close: the day moves to the next open day, and its lending and repo claims are written from the start of claims."""
     return _by_value("close", calendar, tables, book, balances, message, claims)
 
 

@@ -5,11 +5,17 @@ use crate::tracker;
 use bench::rules::{self, RECORD_ROOM};
 use std::collections::BTreeMap;
 use std::fmt::Debug;
+use std::ops::RangeInclusive;
 
 const CLAIM_BYTES: usize = 35;
 const FAIL: u8 = 1;
+const LENDING: u8 = 3;
+const REPO: u8 = 4;
 const ROWS_DROPPED: &str = "fail, rows dropped";
 const PAID_BEHIND: &str = "fail, paid behind";
+const REPO_CLAIM: &str = "repo claim, outcome";
+const ROWS_OF_BOTH: &str = "close, rows of both";
+const REPO_TRANSFER: &str = "transfer, repo";
 
 /// How often each kind of input got each number.
 type Tally = BTreeMap<(&'static str, u16), u64>;
@@ -48,7 +54,8 @@ fn count_claims(claims: &[u8], tally: &mut Tally) {
         let name = match claim[4] {
             FAIL => "fail claim, outcome",
             2 => "interim claim, outcome",
-            _ => "lending claim, outcome",
+            LENDING => "lending claim, outcome",
+            _ => REPO_CLAIM,
         };
         *tally.entry((name, claim[5] as u16)).or_default() += 1;
     }
@@ -70,6 +77,14 @@ fn count_waiting(tables: &[u32], day: u32, claims: &[u8], tally: &mut Tally) {
     for (name, rows) in [(ROWS_DROPPED, reached - fails.len()), (PAID_BEHIND, paid)] {
         *tally.entry((name, rows as u16)).or_default() += 1;
     }
+}
+
+/// Counts a close by the rows that give lending claims and then repo claims.
+fn count_rows_of_both(claims: &[u8], tally: &mut Tally) {
+    let claims: Vec<&[u8]> = claims.chunks_exact(CLAIM_BYTES).collect();
+    let is_turn = |pair: &&[&[u8]]| (pair[0][4], pair[1][4]) == (LENDING, REPO) && pair[0][8..10] == pair[1][8..10];
+    let rows = claims.windows(2).filter(is_turn).count();
+    *tally.entry((ROWS_OF_BOTH, rows as u16)).or_default() += 1;
 }
 
 /// A call on the same book from both, again and again on what the last one left.
@@ -99,6 +114,11 @@ fn compare_calls(random: &mut Random, tally: &mut Tally) -> Result<(), String> {
         let claims = &our_claims[..CLAIM_BYTES * library.claims];
         count_claims(claims, tally);
         count_waiting(tables, book.day, claims, tally);
+        if closing {
+            count_rows_of_both(claims, tally);
+        } else if let Some(7..=12) = message.get(8) {
+            *tally.entry((REPO_TRANSFER, library.number)).or_default() += 1;
+        }
         book = library.book;
     }
     Ok(())
@@ -147,12 +167,23 @@ fn compare_serve(random: &mut Random, tally: &mut Tally) -> Result<(), String> {
     }
 }
 
-/// What a comparison of many inputs has to meet: a failed transfer that drops a row, and one that claims a paid row behind one that waits.
+/// What a comparison of many inputs has to meet: a failed transfer that drops a row, one that claims a paid row behind one that waits, a repo
+/// claim, a row with claims of both types, and a repo refused by its balance and by the limit.
 fn judge(tally: &Tally, count: u64) -> Result<(), String> {
     const MANY: u64 = 10_000;
-    let is_met = |name: &str| tally.keys().any(|&(kind, rows)| kind == name && rows > 0);
-    match [ROWS_DROPPED, PAID_BEHIND].into_iter().find(|name| !is_met(name)) {
-        Some(name) if count >= MANY => Err(format!("{count} inputs and none with '{name}'")),
+    const SOME: RangeInclusive<u16> = 1..=u16::MAX;
+    let wanted = [
+        (ROWS_DROPPED, SOME),
+        (PAID_BEHIND, SOME),
+        (REPO_CLAIM, 0..=3),
+        (ROWS_OF_BOTH, SOME),
+        (REPO_TRANSFER, 7..=7),
+        (REPO_TRANSFER, 8..=8),
+    ];
+    let is_met =
+        |(name, numbers): &(&str, RangeInclusive<u16>)| tally.keys().any(|(kind, n)| kind == name && numbers.contains(n));
+    match wanted.into_iter().find(|what| !is_met(what)) {
+        Some((name, numbers)) if count >= MANY => Err(format!("{count} inputs and none with '{name}' {numbers:?}")),
         _ => Ok(()),
     }
 }

@@ -1,6 +1,6 @@
 //! Inputs: calendars, tables, balances and messages, sound and damaged.
 use crate::random::Random;
-use bench::rules::{BALANCE_WORDS, Book, CALENDAR_WORDS, TABLE_WORDS};
+use bench::rules::{Book, CALENDAR_WORDS, TABLE_WORDS, TRACKING_WORDS};
 
 pub const MOST_LENT: u64 = 9_000_000_000;
 
@@ -160,10 +160,11 @@ fn tables(random: &mut Random) -> Vec<u32> {
     words
 }
 
-fn balances(random: &mut Random) -> Vec<u64> {
+/// The par on loan, or that on repo.
+fn tracking(random: &mut Random) -> Vec<u64> {
     let shape = random.below(5);
     let few = random.from(2, 200);
-    let mut words: Vec<u64> = (0..BALANCE_WORDS)
+    let mut words: Vec<u64> = (0..TRACKING_WORDS)
         .map(|_| match shape {
             0 => 0,
             1 if random.one_in(few) => random.below(MOST_LENT + 1),
@@ -177,6 +178,10 @@ fn balances(random: &mut Random) -> Vec<u64> {
         security.iter_mut().step_by(17).for_each(|own| *own = 0);
     }
     words
+}
+
+fn balances(random: &mut Random) -> Vec<u64> {
+    [tracking(random), tracking(random)].concat()
 }
 
 /// Changes a length.
@@ -264,7 +269,7 @@ fn damage(random: &mut Random, world: &mut World) {
             world.balances[at] = random.pick(&[MOST_LENT, MOST_LENT + 1, u64::MAX, 1 << 63, 1 << 34, 0, 1]);
         }
         9 if !world.balances.is_empty() => {
-            let own = 256 * random.below(16) as usize + 17 * random.below(16) as usize;
+            let own = 256 * random.below(32) as usize + 17 * random.below(16) as usize;
             if let Some(word) = world.balances.get_mut(own) {
                 *word = random.pick(&[0, 1, u64::MAX, 1 << 63]);
             }
@@ -390,14 +395,14 @@ pub fn transfer(random: &mut Random, day: u32) -> Vec<u8> {
         (sender + random.from(1, 15) as u8) % 16,
         random.below(16) as u8,
         random.below(2) as u8,
-        random.pick(&[0, 0, 0, 0, 0, 1, 2, 3, 4, 5, 6]),
+        random.pick(&[0, 0, 0, 0, 0, 0, 1, 2, 3, 4, 5, 6, 7, 8, 9, 10, 11, 12]),
     ];
     if !random.one_in(4) {
         fields[3] = 0;
     }
     if random.one_in(16) {
         let at = random.place(&fields);
-        fields[at] = random.pick(&[0, 1, 2, 6, 7, 15, 16, 128, 255, sender]);
+        fields[at] = random.pick(&[0, 1, 2, 6, 7, 12, 13, 15, 16, 128, 255, sender]);
     }
     bytes.extend(fields);
     let par: u32 = match random.below(8) {

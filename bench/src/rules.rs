@@ -1,4 +1,4 @@
-//! The rules of document 01, with cards 1 and 2 of document 02, in Rust: opening, transfer, close and a run of records.
+//! The rules of document 01, with cards 1 to 3 of document 02, in Rust: opening, transfer, close and a run of records.
 mod book;
 mod claims;
 mod days;
@@ -17,8 +17,9 @@ pub const CALENDAR_WORDS: usize = 480;
 /// Words of the tables, 114 for each of 16 securities.
 pub const TABLE_WORDS: usize = 1824;
 
-/// Words of the balances, 256 for each of 16 securities.
-pub const BALANCE_WORDS: usize = 4096;
+/// Words of the par on loan, 256 for each of 16 securities, and of the balances: on loan, then on repo.
+pub const TRACKING_WORDS: usize = 4096;
+pub const BALANCE_WORDS: usize = 2 * TRACKING_WORDS;
 
 /// The claim buffer of a record in a run, and the room for it and the answer.
 pub const CLAIM_ROOM: usize = 65536;

@@ -138,7 +138,7 @@ fn time_call(name: &str, day: u32, library: Call, rust: Call, messages: &[Vec<u8
     Ok(())
 }
 
-/// A stream of transfers with closes among them: fails with a Contract Date, loans, and plain deliveries.
+/// A stream of transfers with closes among them: fails with a Contract Date, loans, repos, and plain deliveries.
 fn stream() -> Vec<u8> {
     let mut random = Random::new(11);
     let mut bytes = Vec::new();
@@ -154,10 +154,11 @@ fn stream() -> Vec<u8> {
                 (0, format!("{blank}{{98A:CNTR/{contract}}}"))
             }
             5 => (0, "DELIVERY AGAINST PAYMENT".into()),
-            6..8 => (1, "LOAN START".into()),
+            6..8 => (1, "START".into()),
             8 => (random.from(4, 5) as u8, String::new()),
             _ => (random.pick(&[2, 3, 6]), "RETURN".into()),
         };
+        let code = if code > 0 { random.pick(&[code, code + 6]) } else { 0 };
         bytes.extend(transfer_message(parties, security, code, par, &text));
         if number % (TRANSFERS / CLOSES) == 0 {
             bytes.extend([2, 0, 2, 0]);

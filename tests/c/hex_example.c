@@ -1,14 +1,16 @@
 /* Replays document 01's hex example through the exported functions: the book opened on 20230404 with the cases' tables, the first
    case's transfer from account 1 to 2, and all bytes that come out. Then the codecs both ways, two payments that wait for their Payment
-   Dates, an interim claim, a close, refusals, and both calls on the caller's own book. */
+   Dates, an interim claim, a close, refusals, both calls on the caller's own book, a repo beside a loan, and half a book. */
 #include <stdio.h>
 #include <string.h>
 
 #include "claim_tracker.h"
 
+enum { WORDS = CLAIM_TRACKER_BALANCE_WORDS, REPO = 4096 }; /* REPO: the first word of repos */
+
 static uint32_t calendar[CLAIM_TRACKER_CALENDAR_WORDS];
 static uint32_t tables[CLAIM_TRACKER_TABLE_WORDS];
-static uint64_t balances[CLAIM_TRACKER_BALANCE_WORDS];
+static uint64_t balances[WORDS];
 
 static int passed, failed;
 
@@ -61,12 +63,12 @@ int main(void) {
     weekdays();
     case_tables();
     memset(balances, 0xff, sizeof balances);
-    done = claim_tracker_open(calendar, 480, tables, 1824, balances, 4096, 20230402);
+    done = claim_tracker_open(calendar, 480, tables, 1824, balances, WORDS, 20230402);
     check("an opening on a Sunday is refused", done.number == 4 && done.book.day == 20000101 && done.book.count == 0 && done.claims == 0);
-    check("a refused opening leaves the balances", balances[0] == UINT64_MAX && balances[4095] == UINT64_MAX);
-    done = claim_tracker_open(calendar, 480, tables, 1824, balances, 4096, 20230404);
+    check("a refused opening leaves the balances", balances[0] == UINT64_MAX && balances[WORDS - 1] == UINT64_MAX);
+    done = claim_tracker_open(calendar, 480, tables, 1824, balances, WORDS, 20230404);
     check("opening", done.number == 0 && done.book.day == 20230404 && done.book.count == 0 && done.claims == 0);
-    check("opening clears the balances", balances[0] == 0 && balances[4095] == 0);
+    check("opening clears the balances", balances[0] == 0 && balances[WORDS - 1] == 0);
     book = done.book;
 
     memset(first, ' ', sizeof first);
@@ -78,9 +80,9 @@ int main(void) {
     check("the bytes behind it stay", message[141] == 0xee && message[143] == 0xee);
 
     memset(out, 0xaa, sizeof out);
-    done = claim_tracker_transfer(calendar, 480, tables, 1824, book, balances, 4096, message, sizeof message, out, 34);
+    done = claim_tracker_transfer(calendar, 480, tables, 1824, book, balances, WORDS, message, sizeof message, out, 34);
     check("one byte short", done.number == 10 && done.book.day == 20230404 && done.book.count == 0 && done.claims == 0 && out[0] == 0xaa);
-    done = claim_tracker_transfer(calendar, 480, tables, 1824, book, balances, 4096, message, sizeof message, out, sizeof out);
+    done = claim_tracker_transfer(calendar, 480, tables, 1824, book, balances, WORDS, message, sizeof message, out, sizeof out);
     check("the transfer", done.number == 0 && done.book.day == 20230404 && done.book.count == 1 && done.claims == 1);
     check("the byte behind the claim stays", out[35] == 0xaa);
     check("the answer", claim_tracker_write_answer(out + 35, sizeof out - 35, (struct claim_tracker_answer){done.number}) == 0);
@@ -116,28 +118,29 @@ int main(void) {
     static uint8_t records[2 * CLAIM_TRACKER_TRANSFER_BYTES];
     memcpy(records, message, CLAIM_TRACKER_TRANSFER_BYTES);
     memcpy(records + CLAIM_TRACKER_TRANSFER_BYTES, message, CLAIM_TRACKER_TRANSFER_BYTES);
-    book = claim_tracker_open(calendar, 480, tables, 1824, balances, 4096, 20230404).book;
+    book = claim_tracker_open(calendar, 480, tables, 1824, balances, WORDS, 20230404).book;
     struct claim_tracker_served served =
-        claim_tracker_serve(calendar, 480, tables, 1824, book, balances, 4096, records, sizeof records - 1, false, output, sizeof output);
+        claim_tracker_serve(calendar, 480, tables, 1824, book, balances, WORDS, records, sizeof records - 1, false, output, sizeof output);
     check("a run stops at a cut record", served.number == 0 && served.book.count == 1 && served.consumed == 141 && served.written == 41
                                              && !served.over && !served.full && memcmp(output, expected, sizeof expected) == 0);
-    served = claim_tracker_serve(calendar, 480, tables, 1824, served.book, balances, 4096, records + 141, 141, true, output, sizeof output);
+    served = claim_tracker_serve(calendar, 480, tables, 1824, served.book, balances, WORDS, records + 141, 141, true, output,
+                                 sizeof output);
     check("and goes on with it", served.number == 0 && served.book.count == 2 && served.consumed == 141 && served.written == 41
                                      && !served.over && !served.full);
-    served = claim_tracker_serve(calendar, 480, tables, 1824, served.book, balances, 4096, records, 140, true, output, sizeof output);
+    served = claim_tracker_serve(calendar, 480, tables, 1824, served.book, balances, WORDS, records, 140, true, output, sizeof output);
     check("a record cut by the end gets 5", served.consumed == 0 && served.written == 6 && served.over && !served.full && output[4] == 5);
-    served = claim_tracker_serve(calendar, 480, tables, 1823, served.book, balances, 4096, records, 141, true, output, sizeof output);
+    served = claim_tracker_serve(calendar, 480, tables, 1823, served.book, balances, WORDS, records, 141, true, output, sizeof output);
     check("a short table stops a run", served.number == 1 && served.consumed == 0 && served.written == 0 && !served.over && !served.full);
-    served = claim_tracker_serve(calendar, 480, tables, 1824, served.book, balances, 4096, records, sizeof records, true, output,
+    served = claim_tracker_serve(calendar, 480, tables, 1824, served.book, balances, WORDS, records, sizeof records, true, output,
                                  CLAIM_TRACKER_RECORD_ROOM);
     check("a full output is told", served.consumed == 141 && served.written == 41 && !served.over && served.full);
-    served = claim_tracker_serve(calendar, 480, tables, 1824, served.book, balances, 4096, records, sizeof records, true, output,
+    served = claim_tracker_serve(calendar, 480, tables, 1824, served.book, balances, WORDS, records, sizeof records, true, output,
                                  CLAIM_TRACKER_RECORD_ROOM - 1);
     check("and one that has no room at all", served.consumed == 0 && served.written == 0 && !served.over && served.full);
 
     tables[4] = 20230515;
-    book = claim_tracker_open(calendar, 480, tables, 1824, balances, 4096, 20230502).book;
-    done = claim_tracker_transfer(calendar, 480, tables, 1824, book, balances, 4096, message, sizeof message, out, 35);
+    book = claim_tracker_open(calendar, 480, tables, 1824, balances, WORDS, 20230502).book;
+    done = claim_tracker_transfer(calendar, 480, tables, 1824, book, balances, WORDS, message, sizeof message, out, 35);
     claim = claim_tracker_read_claim(out, sizeof out);
     check("April's payment alone where May's waits too", done.number == 0 && done.claims == 1 && claim.number == 0
                                                              && claim.claim.claim_type == CLAIM_TRACKER_CLAIM_TYPE_FAIL
@@ -147,9 +150,9 @@ int main(void) {
 
     memset(first, ' ', sizeof first);
     tables[9] = 20230403;
-    book = claim_tracker_open(calendar, 480, tables, 1824, balances, 4096, 20230404).book;
+    book = claim_tracker_open(calendar, 480, tables, 1824, balances, WORDS, 20230404).book;
     check("a transfer without a tag is written", claim_tracker_write_transfer(message, sizeof message, fields, first, second) == 0);
-    done = claim_tracker_transfer(calendar, 480, tables, 1824, book, balances, 4096, message, sizeof message, out, sizeof out);
+    done = claim_tracker_transfer(calendar, 480, tables, 1824, book, balances, WORDS, message, sizeof message, out, sizeof out);
     claim = claim_tracker_read_claim(out, sizeof out);
     check("May's payment behind its Record Date", done.number == 0 && done.claims == 1 && claim.number == 0
                                                       && claim.claim.claim_type == CLAIM_TRACKER_CLAIM_TYPE_INTERIM
@@ -162,35 +165,70 @@ int main(void) {
     fields.code = 1;
     fields.par = 15000;
     check("a loan is written", claim_tracker_write_transfer(message, sizeof message, fields, first, second) == 0);
-    done = claim_tracker_open(calendar, 480, tables, 1824, balances, 4096, 20230331);
-    done = claim_tracker_transfer(calendar, 480, tables, 1824, done.book, balances, 4096, message, sizeof message, out, 0);
+    done = claim_tracker_open(calendar, 480, tables, 1824, balances, WORDS, 20230331);
+    done = claim_tracker_transfer(calendar, 480, tables, 1824, done.book, balances, WORDS, message, sizeof message, out, 0);
     check("a loan's start", done.number == 0 && done.claims == 0 && done.book.count == 1 && balances[16 * 1 + 2] == 15000);
     uint8_t close[4];
     check("a close is written", claim_tracker_write_close(close, 4) == 0 && claim_tracker_read_close(close, 4) == 0);
     check("a close does not fit 3 bytes", claim_tracker_write_close(close, 3) == 10);
     check("a transfer is no close", claim_tracker_read_close(message, sizeof message) == 5);
-    done = claim_tracker_close(calendar, 480, tables, 1824, done.book, balances, 4096, close, 4, out, sizeof out);
+    done = claim_tracker_close(calendar, 480, tables, 1824, done.book, balances, WORDS, close, 4, out, sizeof out);
     claim = claim_tracker_read_claim(out, 35);
     check("the close of 20230331", done.number == 0 && done.book.day == 20230403 && done.book.count == 1 && done.claims == 1);
     check("April's claim on 15,000", claim.number == 0 && claim.claim.claim_type == 3 && claim.claim.payer == 2 && claim.claim.payee == 1
                                          && claim.claim.transfer == 0 && claim.claim.interest == 7500);
-    done = claim_tracker_close(calendar, 479, tables, 1824, done.book, balances, 4096, close, 4, out, sizeof out);
+    done = claim_tracker_close(calendar, 479, tables, 1824, done.book, balances, WORDS, close, 4, out, sizeof out);
     check("a short calendar", done.number == 1 && done.book.day == 20230403 && done.claims == 0);
 
     struct claim_tracker_reply reply;
-    book = claim_tracker_open(calendar, 480, tables, 1824, balances, 4096, 20230331).book;
-    reply = claim_tracker_transfer_in(calendar, 480, tables, 1824, &book, balances, 4096, message, sizeof message, out, 0);
+    book = claim_tracker_open(calendar, 480, tables, 1824, balances, WORDS, 20230331).book;
+    reply = claim_tracker_transfer_in(calendar, 480, tables, 1824, &book, balances, WORDS, message, sizeof message, out, 0);
     check("a loan's start on the caller's book", reply.number == 0 && reply.claims == 0 && book.day == 20230331 && book.count == 1
                                                      && balances[16 * 1 + 2] == 15000);
-    reply = claim_tracker_transfer_in(calendar, 480, tables, 1824, &book, balances, 4096, close, 4, out, sizeof out);
+    reply = claim_tracker_transfer_in(calendar, 480, tables, 1824, &book, balances, WORDS, close, 4, out, sizeof out);
     check("a close is refused as a transfer there", reply.number == 5 && reply.claims == 0 && book.day == 20230331 && book.count == 1);
     memset(out, 0xaa, sizeof out);
-    reply = claim_tracker_close_in(calendar, 480, tables, 1824, &book, balances, 4096, close, 4, out, 34);
+    reply = claim_tracker_close_in(calendar, 480, tables, 1824, &book, balances, WORDS, close, 4, out, 34);
     check("a close one byte short there", reply.number == 10 && reply.claims == 0 && book.day == 20230331 && out[0] == 0xaa);
-    reply = claim_tracker_close_in(calendar, 480, tables, 1824, &book, balances, 4096, close, 4, out, sizeof out);
+    reply = claim_tracker_close_in(calendar, 480, tables, 1824, &book, balances, WORDS, close, 4, out, sizeof out);
     claim = claim_tracker_read_claim(out, 35);
     check("the close of 20230331 there", reply.number == 0 && reply.claims == 1 && book.day == 20230403 && book.count == 1
                                              && claim.claim.interest == 7500 && out[35] == 0xaa);
+
+    uint8_t repo[CLAIM_TRACKER_TRANSFER_BYTES], two[CLAIM_TRACKER_CLAIM_ROOM(2) + 1];
+    fields.code = CLAIM_TRACKER_CODE_RPST;
+    fields.par = 30000;
+    check("a repo is written", claim_tracker_write_transfer(repo, sizeof repo, fields, first, second) == 0);
+    book = claim_tracker_open(calendar, 480, tables, 1824, balances, WORDS, 20230331).book;
+    done = claim_tracker_transfer(calendar, 480, tables, 1824, book, balances, WORDS, message, sizeof message, two, 0);
+    done = claim_tracker_transfer(calendar, 480, tables, 1824, done.book, balances, WORDS, repo, sizeof repo, two, 0);
+    check("a repo's start beside the loan", done.number == 0 && done.claims == 0 && done.book.count == 2 && balances[16 * 1 + 2] == 15000
+                                                && balances[REPO + 16 * 1 + 2] == 30000);
+    memset(two, 0xaa, sizeof two);
+    book = done.book;
+    done = claim_tracker_close(calendar, 480, tables, 1824, book, balances, WORDS, close, 4, two, sizeof two - 2);
+    check("no room for the repo's claim", done.number == 10 && done.book.day == 20230331 && done.claims == 0 && two[0] == 0xaa);
+    done = claim_tracker_close(calendar, 480, tables, 1824, book, balances, WORDS, close, 4, two, sizeof two);
+    claim = claim_tracker_read_claim(two, 35);
+    check("the loan's claim first", done.number == 0 && done.book.day == 20230403 && done.book.count == 2 && done.claims == 2
+                                        && claim.claim.claim_type == CLAIM_TRACKER_CLAIM_TYPE_LENDING && claim.claim.interest == 7500);
+    claim = claim_tracker_read_claim(two + 35, 35);
+    check("then the repo's", claim.number == 0 && claim.claim.claim_type == CLAIM_TRACKER_CLAIM_TYPE_REPO && claim.claim.outcome == 0
+                                 && claim.claim.payer == 2 && claim.claim.payee == 1 && claim.claim.security == 0 && claim.claim.row == 0
+                                 && claim.claim.transfer == 0 && claim.claim.interest == 15000 && claim.claim.principal == 0
+                                 && claim.claim.release == 20230417 && claim.claim.slot == 3 && two[70] == 0xaa);
+
+    book = claim_tracker_open(calendar, 480, tables, 1824, balances, WORDS, 20230331).book;
+    check("half a book is not opened", claim_tracker_open(calendar, 480, tables, 1824, balances, REPO, 20230331).number == 1);
+    check("nor takes it a transfer",
+          claim_tracker_transfer(calendar, 480, tables, 1824, book, balances, REPO, message, sizeof message, two, sizeof two).number == 1);
+    check("nor a close", claim_tracker_close(calendar, 480, tables, 1824, book, balances, REPO, close, 4, two, sizeof two).number == 1);
+    reply = claim_tracker_transfer_in(calendar, 480, tables, 1824, &book, balances, REPO, message, sizeof message, two, sizeof two);
+    check("nor a transfer on the caller's book", reply.number == 1 && book.day == 20230331 && book.count == 0);
+    reply = claim_tracker_close_in(calendar, 480, tables, 1824, &book, balances, REPO, close, 4, two, sizeof two);
+    check("nor a close there", reply.number == 1 && book.day == 20230331 && book.count == 0);
+    served = claim_tracker_serve(calendar, 480, tables, 1824, book, balances, REPO, records, 141, true, output, sizeof output);
+    check("nor a run", served.number == 1 && served.consumed == 0 && served.written == 0);
 
     printf("%d passed, %d failed\n", passed, failed);
     return failed != 0;

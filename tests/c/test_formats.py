@@ -88,11 +88,14 @@ class Formats(unittest.TestCase):
         self.assertIn("gives at most %d claims: %d bytes" % (most, 35 * most), TEXT)
         for document in (("include", "claim_tracker.h"), ("docs", "man", "claim_tracker.3")):
             self.assertRegex(building.content(*document), "(?i)a transfer gives at most %d claims" % most)
-        for word in (sizes["CLAIM_TRACKER_MOST_CLOSE_CLAIMS"], 35 * sizes["CLAIM_TRACKER_MOST_CLOSE_CLAIMS"], 65536 // 35,
-                     sizes["CLAIM_TRACKER_RECORD_ROOM"], sizes["CLAIM_TRACKER_BOOK_FILE_BYTES"], sizes["CLAIM_TRACKER_TABLE_WORDS"]):
+        close = sizes["CLAIM_TRACKER_MOST_CLOSE_CLAIMS"]
+        self.assertIn("= %s claims: %s bytes" % (format(close, ","), format(35 * close, ",")), TEXT)
+        for word in (close, 65536 // 35, sizes["CLAIM_TRACKER_RECORD_ROOM"], sizes["CLAIM_TRACKER_BOOK_FILE_BYTES"],
+                     sizes["CLAIM_TRACKER_TABLE_WORDS"], sizes["CLAIM_TRACKER_BALANCE_WORDS"]):
             self.assertIn(format(word, ","), TEXT)
-            if word != 2150400:
-                self.assertIn(format(word, ","), building.content("include", "claim_tracker.h").replace("65542", "65,542"))
+            self.assertIn(format(word, ","), building.content("include", "claim_tracker.h").replace("65542", "65,542"))
+        for document in (("docs", "man", "claim_tracker.3"), ("docs", "DESK.md")):
+            self.assertIn(format(close, ","), building.content(*document))
 
 
 if __name__ == "__main__":

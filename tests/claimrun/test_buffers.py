@@ -9,7 +9,7 @@ LAST_ROOM = OUTPUT_BUFFER - RECORD_ROOM         # where the output is so full th
 
 
 class FullOutput(common.Claimrun):
-    """One read whose claims fill the output several times: 1,680 loans and 16 closes."""
+    """One read whose claims fill the output several times: 1,680 loans and repos, and 16 closes."""
 
     @classmethod
     def setUpClass(cls):
@@ -97,7 +97,7 @@ class BufferEnds(common.Claimrun):
 
 
 class ManyReads(common.Claimrun):
-    """Transfers, loans and closes in very many pieces, each read before the next is there."""
+    """Transfers, loans, repos and closes in very many pieces, each read before the next is there."""
 
     @classmethod
     def setUpClass(cls):

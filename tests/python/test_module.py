@@ -77,7 +77,8 @@ def random_calls(count, seed):
             day = mostly(20230315, 20230401, 20230405, 20230231, 20391231)
             tag = mostly(TAG % day, "", "text " + TAG % day, TAG % day + TAG % day, "{98A:CNTR/", "{98A:CNTR/}")
             fields = (mostly(choice.randrange(1, 4), 0, 5, 16), mostly(choice.randrange(4, 6), 1, 255), mostly(choice.randrange(3), 3, 16),
-                      mostly(0, 1, 2), mostly(choice.choice((0, 0, 1)), 2, 3, 4, 5, 6, 7), mostly(200000, 0, 1, 100000000, 100000001))
+                      mostly(0, 1, 2), mostly(choice.choice((0, 0, 0, 0, 1, 7)), *range(2, 7), *range(8, 14)),
+                      mostly(200000, 0, 1, 100000000, 100000001))
             lines.append("transfer%s %d %s" % (form, room, transfer_hex(*fields, tag, mostly("", "more text", TAG % day))))
     return lines
 
@@ -86,12 +87,15 @@ def edge_calls():
     """Lengths, words and counts at their edges, and readers and writers at each size."""
     lines = book_lines()
     opened = transfer_hex(1, 2, 0, 0, 0, 200000, TAG % 20230315)
-    for lengths in ("479 1824 4096", "481 1824 4096", "480 0 4096", "480 1824 4095", "480 1824 0", "0 0 0", "480 1824 4096"):
+    for lengths in ("479 1824 8192", "481 1824 8192", "480 0 8192", "480 1824 8191", "480 1824 8193", "480 1824 4096", "480 1824 0",
+                    "0 0 0", "480 1824 8192"):
         lines += ["lengths " + lengths, "open 20230404", "transfer 245 " + opened, "serve 0 65542 " + opened]
     lines += ["open 20230402", "open 0", "open 4294967295", "book 20230404 4294967294"]
     lines += ["transfer 245 " + opened, "transfer_in 245 " + opened]
-    for word in (9000000000, 9000000001, 18446744073709551615, 0):
-        lines += ["open 20230404", "balances 18 %d" % word, "transfer 0 " + transfer_hex(1, 2, 0, 0, 1, 1), "close_in 65535 02000200"]
+    for place in (18, 4096 + 18):
+        for word in (9000000000, 9000000001, 18446744073709551615, 0):
+            lines += ["open 20230404", "balances %d %d" % (place, word)]
+            lines += ["transfer 0 " + transfer_hex(1, 2, 0, 0, code, 1) for code in (1, 7)] + ["close_in 65535 02000200"]
     lines += ["calendar 1 4294967295", "open 20230404", "calendar 1 0", "tables 0 9", "open 20230404", "tables 0 3", "open 20391229"]
     lines += ["close 0 02000200", "close 0 02000200", "calendar 479 0", "close_in 0 02000200"]
     answer, claim = common.EXPECTED[35:].hex(), common.EXPECTED[:35].hex()
@@ -167,6 +171,18 @@ class Calls(unittest.TestCase):
         self.assertEqual(served, (0, Book(20230404, 1), 141, 41, False, True))
         self.assertEqual(bytes(output[:41]), common.EXPECTED)
 
+    def test_half_a_book(self):
+        """Balances of loans alone get 1 from every call, and nothing changes."""
+        half, own, room = array("Q", [0]) * (claim_tracker.BALANCE_WORDS // 2), Book(DAY), bytearray(claim_tracker.RECORD_ROOM)
+        self.assertEqual(claim_tracker.open(CALENDAR, TABLES, half, DAY), (Number.WRONG_LENGTH, Book(20000101), 0))
+        for message, call, call_in in ((common.TRANSFER, claim_tracker.transfer, claim_tracker.transfer_in),
+                                       (b"\2\0\2\0", claim_tracker.close, claim_tracker.close_in)):
+            self.assertEqual(call(CALENDAR, TABLES, Book(DAY), half, message, room), (Number.WRONG_LENGTH, Book(DAY), 0))
+            self.assertEqual(call_in(CALENDAR, TABLES, own, half, message, room), (Number.WRONG_LENGTH, 0))
+            served = claim_tracker.serve(CALENDAR, TABLES, Book(DAY), half, message, True, room)
+            self.assertEqual((served.number, served.book, served.consumed, served.written), (Number.WRONG_LENGTH, Book(DAY), 0, 0))
+        self.assertEqual((own, set(half), set(room)), (Book(DAY), {0}, {0}))
+
     def test_streams(self):
         """The streams of crates/vectors, by the rule of FORMATS.md."""
         for number, stream in enumerate(common.vectors()):
@@ -222,12 +238,10 @@ class Largest(unittest.TestCase):
         return claim_tracker.close(self.calendar, self.tables, self.book, self.balances, b"\2\0\2\0", bytearray(room))
 
     def test_close(self):
-        for security in range(16):
-            for lender in range(16):
-                for borrower in range(16):
-                    self.balances[256 * security + 16 * lender + borrower] = lender != borrower
+        for place in range(claim_tracker.BALANCE_WORDS):
+            self.balances[place] = place // 16 % 16 != place % 16
         room = claim_tracker.claim_room(claim_tracker.MOST_CLOSE_CLAIMS)
-        self.assertEqual(room, 2150400)
+        self.assertEqual(room, 4300800)
         self.assertEqual(self.close(room - 1), (Number.NO_ROOM, self.book, 0))
         self.assertEqual(self.close(room), (0, Book(self.DAYS[1]), claim_tracker.MOST_CLOSE_CLAIMS))
 
@@ -327,7 +341,7 @@ class Refusals(unittest.TestCase):
                     self.refused(TypeError, r"\A%s: .*; allowed: bytes" % name, call, **self.good(**{name: given}))
             self.refused(TypeError, r"\Aclaims: cannot be written to", call, **self.good(claims=bytes(245)))
             self.refused(TypeError, r"\Abalances: cannot be written to", call,
-                         **self.good(balances=memoryview(bytes(8 * 4096)).cast("Q")))
+                         **self.good(balances=memoryview(bytes(8 * claim_tracker.BALANCE_WORDS)).cast("Q")))
             for given in ((DAY, 0), None, DAY):
                 self.refused(TypeError, r"\Abook: of type \w+; allowed: Book", call, **self.good(book=given))
             self.refused(TypeError, r"\Abook.day: of type float", call, **self.good(book=Book(2.0)))
@@ -336,12 +350,12 @@ class Refusals(unittest.TestCase):
         call = claim_tracker.transfer
         self.refused(ValueError, r"\Aclaims and message overlap\Z", call, **self.good(message=memoryview(self.buffer)[200:]))
         both = memoryview(self.balances).cast("B")
-        self.refused(ValueError, r"\Abalances and claims overlap\Z", call, **self.good(claims=both[32760:]))
+        self.refused(ValueError, r"\Abalances and claims overlap\Z", call, **self.good(claims=both[-8:]))
         self.refused(ValueError, r"\Abalances and calendar overlap\Z", call, **self.good(calendar=both[:1920].cast("I")))
         self.refused(ValueError, r"\Abuffer and second_line overlap\Z", claim_tracker.write_transfer, self.buffer,
                      Transfer(1, 2, 0, 0, 0, 1), bytes(64), memoryview(self.buffer)[236:])
         self.refused(ValueError, r"\Abalances: does not begin at a multiple of 8 bytes\Z", call,
-                     **self.good(balances=memoryview(bytearray(8 * 4097))[4:-4].cast("Q")))
+                     **self.good(balances=memoryview(bytearray(8 * claim_tracker.BALANCE_WORDS + 8))[4:-4].cast("Q")))
         line = memoryview(bytearray(b"{98A:CNTR/20230315}".ljust(64)))
         self.assertEqual(claim_tracker.write_transfer(bytearray(141), Transfer(1, 2, 0, 0, 0, 1), line, line), 0)
 

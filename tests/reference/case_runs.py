@@ -1,12 +1,13 @@
-"""Document 01's cases that no theorem states, its mistakes to rule out, the fail, interim and lending examples of source document 001
-(Clearing Memo 278), Attachment II, and the edges of the rules of interim claims and of pools that pay late, by the reference.
+"""Document 01's cases that no theorem states, its mistakes to rule out, the fail, interim, repo and lending examples of source document 001
+(Clearing Memo 278), Attachment II, and the edges of the rules of interim claims, of pools that pay late and of repos beside loans, by the
+reference.
 
     python3 case_runs.py REFERENCE_FOLDER STEPS_FILE
 
 writes the calls to STEPS_FILE (crates/case_runs/data/case_runs.in) and prints what the program case_runs has to write for them
-(crates/case_runs/stdout). Years and factors of the memo's fail and lending examples are those of the reference's cases.py; the interim
-examples are in 2026, where both Settlement Dates, 7 and 17 December, are open days. Each run is made by the reference's tally and its
-direct calls side by side.
+(crates/case_runs/stdout). Years and factors of the memo's fail and lending examples are those of the reference's cases.py, and the repo
+examples have those of lending; the interim examples are in 2026, where both Settlement Dates, 7 and 17 December, are open days. Each run is
+made by the reference's tally and its direct calls side by side, but for saved books, which only the direct calls can take.
 
 Under a call stand its claims and the balances that are not zero: 'lent' for a loan and 'repo' for a repo, each with security, lender,
 borrower and par, loans first.
@@ -19,6 +20,7 @@ ref, mk, cards, cases = step_files.reference_modules(sys.argv[1], "reference", "
 rules = cards.Rules(step_files.CARDS)
 steps = step_files.Steps(ref, rules)
 ROOM = 4096
+TRACKINGS = (("loan", 1), ("repo", 7))      # each with its first code
 W, X, Y, Z = 3, 0, 1, 2      # the memo's banks
 CALENDAR = mk.weekdays()
 
@@ -44,19 +46,23 @@ class Run:
             if par:
                 print(" repo" if w >= cards.REPO_AT else " lent", w // 256 % 16, w // 16 % 16, w % 16, par)
 
-    def made(self, name, result, tallied):
-        assert result == tallied, name
-        self.both.check_owed()
+    def save(self, day, words):
+        """A saved book with these words from here on."""
+        self.both = None
+        steps.set_book(day, 0, [words.get(w, 0) for w in range(rules.words)])
+
+    def made(self, form, name, message, room):
+        result = getattr(steps, form)("%s-%s" % (self.name, name), message, room)
+        if self.both:
+            assert result == getattr(self.both, form)(steps.calendar, steps.tables, message, step_files.pattern(room)), name
+            self.both.check_owed()
         self.show(name, result)
 
     def transfer(self, name, *fields, room=ROOM, **more):
-        message = mk.transfer(*fields, **more)
-        tallied = self.both.transfer(steps.calendar, steps.tables, message, step_files.pattern(room))
-        self.made(name, steps.transfer("%s-%s" % (self.name, name), message, room), tallied)
+        self.made("transfer", name, mk.transfer(*fields, **more), room)
 
-    def close(self, name):
-        tallied = self.both.close(steps.calendar, steps.tables, mk.close(), step_files.pattern(ROOM))
-        self.made(name, steps.close("%s-%s" % (self.name, name), mk.close(), ROOM), tallied)
+    def close(self, name, room=ROOM):
+        self.made("close", name, mk.close(), room)
 
 
 def document_cases():
@@ -78,7 +84,8 @@ def mistakes():
     run.transfer("contract-date-is-a-beneficiary-date", 1, 2, 0, 200_000, contract=20230401)
     for code in range(1, rules.last_code + 1):
         run.transfer("of-code-%d" % code, 1, 2, 0, 200_000, code, contract=20230405)
-    run.transfer("loan-with-a-tag", 1, 2, 0, 200_000, 1, contract=20230315)
+    for name, start in TRACKINGS:
+        run.transfer(name + "-with-a-tag", 1, 2, 0, 200_000, start, contract=20230315)
     rows = [ref.Row(20240001 + 100 * m, 20240001 + 100 * m, 20240015 + 100 * m, 1_000_000 * m, 0, 0, 0)
             for m in range(1, 13)]
     for kind, frequency in ((1, 1), (1, 2), (2, 3), (2, 4), (3, 2), (4, 1)):
@@ -86,12 +93,11 @@ def mistakes():
                   mk.tables_of({5: mk.security(kind, frequency, rows)}))
         run.transfer("most-recent", 1, 2, 5, 100, contract=20231231)
         run.transfer("after-the-contract-date", 1, 2, 5, 100, contract=20240930)
-    for name, start in (("loans-each-way", 1), ("repos-each-way", 7)):
-        if start <= rules.last_code:
-            run = Run(name, 20230331, mk.cases_tables())
-            run.transfer("lent", 1, 2, 0, 700, start)
-            run.transfer("borrowed", 2, 1, 0, 300, start)
-            run.close("close-over-a-saturday")
+    for name, start in TRACKINGS:
+        run = Run(name + "s-each-way", 20230331, mk.cases_tables())
+        run.transfer("lent", 1, 2, 0, 700, start)
+        run.transfer("borrowed", 2, 1, 0, 300, start)
+        run.close("close-over-a-saturday")
 
 
 def memo_fails():
@@ -215,22 +221,60 @@ def long_delay():
         fail(pool, "-20230905-contract-date-on-the-first-of-seven", contract=20230301)
 
 
-def memo_lending():
-    """Securities lending tracking, examples 1 to 3, each on what the last one left."""
+def memo_balances(name, start, returned):
+    """Repo or securities lending tracking, examples 1 to 3, each on what the last one left: its first code, and the par that example 3
+    returns."""
     rows = cases.monthly(2024, (1, 2, 3))
     cusip_a, cusip_b = 0, 1
-    run = Run("lending", 20240129, mk.tables_of({s: mk.security(3, 1, rows) for s in (cusip_a, cusip_b)}))
-    run.transfer("example-1-a", X, Y, cusip_a, 50_000, 1)
-    run.transfer("example-1-b", Z, X, cusip_b, 40_000, 1)
-    run.transfer("example-1-c", Y, X, cusip_a, 20_000, 2)
+    run = Run(name, 20240129, mk.tables_of({s: mk.security(3, 1, rows) for s in (cusip_a, cusip_b)}))
+    run.transfer("example-1-a", X, Y, cusip_a, 50_000, start)
+    run.transfer("example-1-b", Z, X, cusip_b, 40_000, start)
+    run.transfer("example-1-c", Y, X, cusip_a, 20_000, start + 1)
     run.close("example-1-close")
-    run.transfer("example-2-a", X, Z, cusip_b, 50_000, 1)
-    run.transfer("example-2-b", Y, X, cusip_a, 15_000, 6)
+    run.transfer("example-2-a", X, Z, cusip_b, 50_000, start)
+    run.transfer("example-2-b", Y, X, cusip_a, 15_000, start + 5)
     run.close("example-2-close")
-    run.transfer("example-3-a", X, Z, cusip_b, 30_000, 3)
+    run.transfer("example-3-a", X, Z, cusip_b, returned, start + 2)
     run.close("example-3-close")
-    run.transfer("on-the-record-date", X, Y, cusip_a, 1_000, 5)
+    run.transfer("on-the-record-date", X, Y, cusip_a, 1_000, start + 4)
     run.close("after-the-record-date")
+
+
+def repos():
+    """Repos beside loans of the same two accounts: codes, amounts, the order of claims, outcomes, rooms, and saved books at the limits."""
+    row = mk.cases_row(4)
+    ordered, final, masked, nothing = range(1, 5)
+    tables = mk.tables_of({s: mk.security(kind, 1, rows) for s, kind, rows in (
+        (0, 3, [row, mk.cases_row(5)]),
+        (ordered, 3, [row, row._replace(record=20230402, beneficiary=20230402, interest_factor=10_000_000)]),
+        (final, 2, [row._replace(final=1, mask=1 << 2)]),
+        (masked, 1, [row._replace(mask=1 << 2)]),
+        (nothing, 4, [row._replace(interest_factor=0, final=1)]))})
+    run = Run("repos", 20230331, tables)
+    for name, sender, receiver, par, code in (
+            ("loan-start", 1, 2, 50_000, 1), ("start", 1, 2, 30_000, 7), ("close", 2, 1, 10_000, 9), ("decrease", 2, 1, 5_000, 12),
+            ("decrease-above-it", 2, 1, 15_001, 12), ("code-13", 1, 2, 15_000, 13), ("loan-return-above-it", 2, 1, 50_001, 3),
+            ("start-reversal", 2, 1, 15_000, 8), ("increase", 1, 2, 15_000, 11)):
+        run.transfer(name, sender, receiver, 0, par, code)
+    run.close("and-loan-one-byte-short", room=69)
+    run.close("and-loan", room=70)
+    for name, loans in (
+            ("row-by-row", [(ordered, 1, 2, 100, 1), (ordered, 2, 1, 300, 1), (ordered, 1, 2, 200, 7)]),
+            ("rounded-apart", [(0, 1, 2, 1, 1), (0, 1, 2, 1, 7)]),
+            ("outcomes", [(s, 1, 2, 10_000, code) for s in (final, masked, nothing) for code in (1, 10)]),
+            ("payee-masked", [(masked, 2, 1, 10_000, code) for code in (1, 10)])):
+        run.open(name + "-opening", 20230331)
+        for i, (security, lender, borrower, par, code) in enumerate(loans):
+            run.transfer("%s-%d" % (name, i), lender, borrower, security, par, code)
+        run.close(name)
+    for name, words in (("with-itself", {4_096 + 85: 1}), ("past-the-limit", {8_190: 9_000_000_001})):
+        run.save(20230331, words)
+        run.transfer(name + "-transfer", 1, 2, 0, 1)
+        run.close(name)
+    for (name, start), (other, first), word in zip(TRACKINGS, reversed(TRACKINGS), (18, 4_114)):
+        run.save(20230331, {word: 9_000_000_000})
+        run.transfer(name + "-past-the-limit", 1, 2, 0, 1, start)
+        run.transfer("%s-beside-a-%s-at-the-limit" % (other, name), 1, 2, 0, 1, first)
 
 
 document_cases()
@@ -239,5 +283,7 @@ memo_fails()
 memo_interim()
 interim()
 long_delay()
-memo_lending()
+memo_balances("lending", 1, 30_000)
+memo_balances("repo", 7, 40_000)
+repos()
 steps.write(sys.argv[2])

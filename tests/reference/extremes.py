@@ -36,36 +36,42 @@ def close(name, room):
     show(name, steps.close(name, mk.close(), room))
 
 
-def balances_of(*entries):
-    """Balances with these loans."""
+def balances_of(*entries, start=0):
+    """Balances with these loans, or with these repos where start is the first word of repos."""
     words = [0] * rules.words
     for security, lender, borrower, par in entries:
-        words[ref.place(security, lender, borrower)] = par
+        words[start + ref.place(security, lender, borrower)] = par
     return words
+
+
+def limits(name, start, code):
+    """Balances at the limit, past it and with themselves, in the half of the words that starts here; its codes follow this one."""
+    steps.set_book(20230331, 0, balances_of((0, 1, 2, LIMIT - 100_000_000), (15, 15, 14, LIMIT), start=start))
+    transfer(name + "start-past-the-limit", 0, 15, 14, 15, 1, code + 1)
+    transfer(name + "start-to-the-limit", 0, 1, 2, 0, 100_000_000, code + 1)
+    transfer(name + "increase-past-the-limit", 0, 1, 2, 0, 1, code + 5)
+    transfer(name + "decrease-above-nothing", 0, 1, 2, 0, 1, code + 3)
+    close(name + "close-at-the-limit-one-byte-short", 69)
+    close(name + "close-at-the-limit", 70)
+    transfer(name + "return-from-the-limit", 0, 2, 1, 0, 100_000_000, code + 3)
+    for which, entry in (("past-the-limit", (0, 1, 2, LIMIT + 1)), ("with-itself", (15, 15, 15, 1)), ("with-itself-first", (0, 0, 0, 1))):
+        steps.set_book(20230404, 0, balances_of(entry, start=start))
+        close("%sbalance-%s" % (name, which), 0)
 
 
 def largest_amounts():
     """Balances at the limit, factors at the limit, the count at its end."""
     row = ref.Row(20230401, 20230401, 20230415, FACTOR, FACTOR, 0, 0)
     steps.set_tables(mk.weekdays(), mk.tables_of({s: mk.security(s % 4 + 1, 1, [row]) for s in (0, 15)}))
-    steps.set_book(20230331, 0, balances_of((0, 1, 2, LIMIT - 100_000_000), (15, 15, 14, LIMIT)))
-    transfer("start-past-the-limit", 0, 15, 14, 15, 1, 1)
-    transfer("start-to-the-limit", 0, 1, 2, 0, 100_000_000, 1)
-    transfer("increase-past-the-limit", 0, 1, 2, 0, 1, 5)
-    transfer("decrease-above-nothing", 0, 1, 2, 0, 1, 3)
-    close("close-at-the-limit-one-byte-short", 69)
-    close("close-at-the-limit", 70)
-    transfer("return-from-the-limit", 0, 2, 1, 0, 100_000_000, 3)
+    for kind, (name, (_, start)) in enumerate(zip(("", "repo-"), rules.kinds)):
+        limits(name, start, 6 * kind)
+    steps.set_book(20230403, 0, balances_of())
     transfer("fail-of-the-largest-par", 35, 3, 4, 0, 100_000_000, contract=20230331)
     transfer("fail-of-the-smallest-par", 35, 3, 4, 15, 1, contract=20230331)
     steps.set_book(20230404, 4_294_967_294, balances_of((0, 1, 2, LIMIT)))
     transfer("last-transfer-number", 35, 3, 4, 0, 1, contract=20230331)
     transfer("no-transfer-number-left", 35, 3, 4, 0, 1, contract=20230331)
     close("close-with-the-count-at-its-end", 0)
-    steps.set_book(20230404, 0, balances_of((0, 1, 2, LIMIT + 1)))
-    close("balance-past-the-limit", 0)
-    steps.set_book(20230404, 0, balances_of((15, 15, 15, 1)))
-    close("balance-with-itself", 0)
     steps.set_book(20230404, 7, [2 ** 64 - 1] * rules.words)
     transfer("largest-words", 0, 1, 2, 0, 1)
     opening("opening-over-the-largest-words", 20230404)
@@ -118,22 +124,20 @@ def every_row():
         {s: mk.security(s % 4 + 1, s // 4 + 1, [row(s, r) for r in range(16)]) for s in range(16)}))
     balances = every_balance()
     steps.set_book(20000103, 3, balances)
-    close("every-row-no-buffer", 0)
-    close("every-row-one-byte-short", 35 * EVERY_CLAIM - 1)
-    close("every-row", 35 * EVERY_CLAIM)
-    close("no-row-no-buffer", 0)
-    steps.set_book(20000103, 3, balances)
     close("every-row-one-byte-over", 35 * EVERY_CLAIM + 1)
     steps.set_book(20000103, 3, [0 if w // 16 % 16 == w % 16 else LIMIT for w in range(rules.words)])
     close("every-row-at-the-limit", 35 * EVERY_CLAIM)
-    steps.set_book(20330301, 3, balances)
+    steps.set_book(20000103, 3, balances)
+    close("every-row-no-buffer", 0)
+    close("every-row-one-byte-short", 35 * EVERY_CLAIM - 1)
+    close("every-row", 35 * EVERY_CLAIM)
     transfer("seven-rows-no-buffer", 0, 9, 8, 2, 77_777_777, contract=20000103)
     transfer("seven-rows-one-byte-short", 244, 9, 8, 2, 77_777_777, contract=20000103)
     transfer("seven-rows", 245, 9, 8, 2, 77_777_777, contract=20000103)
     transfer("seven-rows-one-byte-over", 246, 9, 8, 2, 77_777_777, contract=20000103)
     transfer("no-claims-no-buffer", 0, 9, 8, 2, 77_777_777, contract=20330301)
     transfer("no-tag-no-buffer", 0, 9, 8, 2, 77_777_777)
-    close("close-to-the-end-no-buffer", 0)
+    close("no-row-no-buffer", 0)
 
 
 def most_claims():

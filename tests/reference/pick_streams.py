@@ -2,11 +2,10 @@
 
     python3 pick_streams.py REFERENCE_FOLDER SEED COUNT FOLDER
 
-makes random streams by the reference's make_vectors.py and writes COUNT of them to FOLDER/streams.in: for each the bytes of book.dat (none
-where it is missing), the input, and all that claimrun writes, each behind its length of four bytes. It takes first the streams that show
-an answer, a combination of claim type, outcome and slot, two claim types together or a case of waiting rows that no stream before them
-shows, then the smallest others. It prints what the streams cover, and fails where a claim type, an outcome, a slot, two claim types
-together, a case of waiting rows or an answer that a stream can get are missing.
+makes random streams by the reference's make_vectors.py, and one with a loan and a repo at their limits, and writes COUNT of them to
+FOLDER/streams.in: for each the bytes of book.dat (none where it is missing), the input, and all that claimrun writes, each behind its
+length of four bytes. It takes first the streams that show something that no stream before them shows, then the smallest others. It prints
+what the streams cover, and fails where an answer that a stream can get is missing, or something else that step_files.wanted asks for.
 """
 import os
 import struct
@@ -17,7 +16,7 @@ import tempfile
 import step_files
 
 folder, seed, count, out = sys.argv[1], sys.argv[2], int(sys.argv[3]), sys.argv[4]
-ref, cards, claimrun = step_files.reference_modules(folder, "reference", "cards", "claimrun")
+ref, mk, cards, claimrun = step_files.reference_modules(folder, "reference", "makebook", "cards", "claimrun")
 # Answers that no stream gets: 11 needs 4,294,967,295 transfers before it, claimrun lends no limits (12) and ones as denominations (13, 14),
 # and 16 to 21 are those of calls that it does not make.
 NEVER = {11, 12, 13, 14, *range(16, 22)}
@@ -34,6 +33,16 @@ def content(*names) -> bytes:
         return file.read()
 
 
+def at_the_limit() -> tuple:
+    """A loan that goes to the limit, then a repo of the same two accounts; each is decreased and increased again with the other at the
+    limit, and a close claims both."""
+    records = [mk.transfer(4, 9, 0, 100_000_000, start) for start in (1, 7) for _ in range(90)]
+    for start in (1, 7):
+        records += [mk.transfer(4, 9, 0, 1, start), mk.transfer(9, 4, 0, 1, start + 2), mk.transfer(4, 9, 0, 1, start + 4)]
+    book, data = mk.book_bytes(mk.weekdays(), mk.cases_tables(), 20230331), b"".join(records) + mk.close()
+    return book, data, claimrun.run_bytes(book, data, cards.Both(step_files.CARDS))
+
+
 def shown(book, data, expected) -> set:
     """What a stream shows."""
     direct = step_files.Direct(ref, cards)
@@ -45,6 +54,7 @@ with tempfile.TemporaryDirectory() as made:
     subprocess.run([sys.executable, "-B", os.path.join(folder, "vectors", "make_vectors.py"), "--cards", str(step_files.CARDS), seed,
                     str(CANDIDATES), made], check=True, stdout=subprocess.DEVNULL)
     streams = [tuple(content(made, name, part) for part in ("book.dat", "input.dat", "expected.dat")) for name in sorted(os.listdir(made))]
+streams.append(at_the_limit())
 seen, first, others = set(), [], []
 for i, stream in sorted(enumerate(streams), key=lambda entry: (sum(map(len, entry[1])), entry[0])):
     if sum(map(len, stream)) > LARGEST:
@@ -59,9 +69,8 @@ with open(os.path.join(out, "streams.in"), "wb") as file:
     for _, stream, _ in picked:
         file.write(b"".join(struct.pack("<I", len(part)) + part for part in stream))
 print("%d streams, places %s" % (len(picked), " ".join(str(i) for i, _, _ in picked)))
-for name, title in (("answer", "answers"), ("claim", "claims (type, outcome, slot)"), ("together", "types of two claims of one call"),
-                    ("waiting", "rows that wait")):
-    print("%s:" % title, ", ".join("/".join(map(str, shown_by)) for shown_by in sorted(fact[1:] for fact in covered if fact[0] == name)))
-missing = sorted(step_files.wanted(NUMBERS) - step_files.parts_of(covered), key=str)
+for name in sorted({fact[0] for fact in covered}):
+    print("%s:" % name, ", ".join("/".join(map(str, shown_by)) for shown_by in sorted(fact[1:] for fact in covered if fact[0] == name)))
+missing = sorted(step_files.wanted(NUMBERS) - covered, key=str)
 if missing or len(picked) < count:
     sys.exit("missing: %s" % missing)

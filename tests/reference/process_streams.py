@@ -4,7 +4,8 @@
 
 writes FOLDER/NAME.stream for each stream: the bytes of book.dat, the input, all that claimrun writes, and the places where the input is
 cut into pieces (four bytes each), each of the four parts behind its length of four bytes. tests/claimrun/data holds the files, packed by
-gzip -9n. It fails where a claim type in force is missing, a row that card 2 drops, or a paid row claimed behind one that waits.
+gzip -9n. It fails where a claim type in force is missing, an accepted transfer of a code, a row that card 2 drops, or a paid row claimed
+behind one that waits.
 """
 import os
 import random
@@ -17,7 +18,7 @@ ref, mk, cards, claimrun = step_files.reference_modules(sys.argv[1], "reference"
 rules = cards.Rules(step_files.CARDS)
 ACCOUNTS, ROWS = 16, 16
 PAIRS = [(lender, borrower) for lender in range(ACCOUNTS) for borrower in range(ACCOUNTS) if lender != borrower]
-START = 1                       # the tracking code that starts a loan
+STARTS = (1, 7)                 # the tracking codes that start a loan and a repo
 TRANSFER_SIZE, CLOSE_SIZE = 141, 4
 INPUT_BUFFER = 65536
 OUTPUT_BUFFER = 262144
@@ -46,7 +47,7 @@ def store(name, book, data, cuts, tallied=True):
         both = cards.Both(step_files.CARDS)
         assert claimrun.run_bytes(book, data, both) == expected, name
         both.check_owed()
-    shown.update(step_files.parts_of(step_files.record_facts(expected) | direct.facts))
+    shown.update(step_files.record_facts(expected) | direct.facts)
     parts = (book, data, expected, struct.pack("<%dI" % len(cuts), *cuts))
     with open(os.path.join(sys.argv[2], name + ".stream"), "wb") as file:
         file.write(b"".join(struct.pack("<I", len(part)) + part for part in parts))
@@ -59,12 +60,13 @@ def days_from(first: int) -> list:
 
 
 def loans(security: int, pairs) -> bytes:
-    """Starts of loans, of another par for each pair."""
-    return b"".join(mk.transfer(lender, borrower, security, 1_000 * (lender + 1) + borrower, START) for lender, borrower in pairs)
+    """Starts of loans and repos by turns, of another par for each pair."""
+    return b"".join(mk.transfer(lender, borrower, security, 1_000 * (lender + 1) + borrower, STARTS[i % 2])
+                    for i, (lender, borrower) in enumerate(pairs))
 
 
 def full_output():
-    """1,680 loans, then 16 closes in one piece; each crosses a Record Date of every security lent."""
+    """1,680 loans and repos, then 16 closes in one piece; each crosses a Record Date of every security lent."""
     lent = range(7)
     days = days_from(FIRST_DAY)
 
@@ -112,7 +114,7 @@ def fill_points(name, offsets):
 
 
 def some_transfer(dice, day: int, securities: int) -> bytes:
-    """A failed transfer, a loan or its return, or another transfer; some are refused."""
+    """A failed transfer, a loan or a repo or its return, or another transfer; some are refused."""
     sender, receiver = dice.choice(PAIRS[:40])
     security, par = dice.randrange(securities), dice.choice((1, 500, 40_000, dice.randrange(1, 100_000_001)))
     style = dice.randrange(8)
@@ -121,7 +123,7 @@ def some_transfer(dice, day: int, securities: int) -> bytes:
         return mk.transfer(sender, receiver, security, par, contract=OPEN_DAYS[at], klass=int(style == 0))
     if style == 3:
         return mk.transfer(sender, receiver, security, par)
-    return mk.transfer(sender, receiver, security, par, code=dice.choice((1, 1, 4, 5, 2, 3, 6)))
+    return mk.transfer(sender, receiver, security, par, code=dice.choice(STARTS) + dice.choice((0, 0, 3, 4, 1, 2, 5)))
 
 
 def monthly_tables(dice, securities: int) -> list:
@@ -160,7 +162,7 @@ def buffer_ends():
 
 
 def many_reads():
-    """Loans, failed transfers and closes in more than 1,000 pieces, cut anywhere and often behind the first bytes of a record."""
+    """Loans, repos, failed transfers and closes in more than 1,000 pieces, cut anywhere and often behind the first bytes of a record."""
     dice = random.Random("many-reads")
     days = days_from(FIRST_DAY)
     data, cuts, day = b"", set(), 0
@@ -182,7 +184,7 @@ def closed_opening_day():
     calendar = list(CALENDAR)
     calendar[0] |= 1
     tables = mk.tables_of({0: mk.security(3, 1, [ref.Row(20000103, 20000103, 20000110, 5_000_000, 0, 0, 0)])})
-    data = mk.transfer(1, 2, 0, 200_000, START) + mk.close() * 2 + mk.transfer(1, 2, 0, 200_000, contract=20000101)
+    data = mk.transfer(1, 2, 0, 200_000, STARTS[0]) + mk.close() * 2 + mk.transfer(1, 2, 0, 200_000, contract=20000101)
     other = claimrun.run_bytes(mk.book_bytes(calendar, tables, 20000101), data, cards.Both(step_files.CARDS))
     claims = 1 if rules.old(20000101) else 2        # the loan gives none on a day before there is lending
     assert len(other) == 4 * 6 + claims * ref.CLAIM_SIZE
@@ -196,6 +198,7 @@ fill_points("fill-points-above", range(2, 7))
 buffer_ends()
 many_reads()
 closed_opening_day()
-missing = {("type", n) for n in step_files.in_force(step_files.CLAIM_TYPES)} | {("waiting", "dropped"), ("waiting", "paid kept behind")}
-missing -= shown
-sys.exit("missing: %s" % sorted(missing) if missing else 0)
+wanted = {("type", n) for n in step_files.in_force(step_files.CLAIM_TYPES)} | {("waiting", "dropped"), ("waiting", "paid kept behind")} | {
+    ("code", n) for n in range(rules.last_code + 1)}
+missing = sorted(wanted - shown - {("type", fact[1]) for fact in shown if fact[0] == "claim"})
+sys.exit("missing: %s" % missing if missing else 0)

@@ -8,18 +8,36 @@ import os
 import struct
 import sys
 
-CARDS = 2                       # how many of document 02's cards are in force
+CARDS = 3                       # how many of document 02's cards are in force
 OPEN, TRANSFER, CLOSE, TABLES, BOOK = range(5)
 MODULUS = 4294967291
+REPO_AT = 4096                  # the first word of repos
 
-# The answers, the claim types, the types of two claims of one call, and what a failed transfer shows of rows that wait, each with the card
-# that brings it; 0 is document 01. A row waits where its Payment Date is after the day S; C is the Contract Date.
+# The answers, and what else the stored data show, each with the card that brings it; 0 is document 01.
 ANSWERS = {n: 0 for n in (*range(12), 132, 133, 135, 138, 139)} | {
     12: 5, 13: 6, 14: 6, 15: 7, 16: 9, 17: 9, 18: 10, 19: 10, 20: 14, 21: 14}
 CLAIM_TYPES = {1: 0, 2: 1, 3: 0, 4: 3}
-TOGETHER = {(1, 1): 0, (1, 2): 1, (2, 2): 1, (3, 3): 0, (3, 4): 3, (4, 4): 3}
-WAITING = {"dropped": 2, "paid kept behind": 2, "paid on S": 2, "another up to C": 2, "no room for an eighth": 2, "types 1 and 2 uncut": 2}
-OUTCOMES = SLOTS = range(4)
+# A claim's type, outcome and slot.
+CLAIMS = {("claim", kind, *rest): card for kind, card in CLAIM_TYPES.items() for rest in ((0, 1), (0, 3), (1, 0), (3, 0))} | {
+    ("claim", 1, 0, 2): 0, ("claim", 3, 2, 0): 0, ("claim", 4, 2, 0): 3}
+# The types of two claims of one call.
+TOGETHER = {("together", 1, 1): 0, ("together", 1, 2): 1, ("together", 2, 2): 1, ("together", 3, 3): 0, ("together", 3, 4): 3,
+            ("together", 4, 4): 3}
+# What a failed transfer shows of rows that wait. A row waits where its Payment Date is after the day S; C is the Contract Date.
+WAITING = {("waiting", name): 2 for name in (
+    "dropped", "paid kept behind", "paid on S", "another up to C", "no room for an eighth", "types 1 and 2 uncut")}
+# Loans and repos: an edit of the tag; no claim with a tag with which code 0 would give claims; an answer to an increase or a decrease that
+# would be another one on the other's balance.
+TRACKINGS = {"loan": 0, "repo": 3}
+TRACKED = {("edit", kind, n): card for kind, card in TRACKINGS.items() for n in (132, 133, 135, 138, 139)} | {
+    ("no claim", kind): card for kind, card in TRACKINGS.items()} | {
+    ("apart", kind, *answer): 3 for kind in TRACKINGS for answer in (("increase", 0), ("increase", 8), ("decrease", 0), ("decrease", 7))}
+# The codes of accepted transfers, and the lowest code that is refused for itself.
+CODES = {("code", n): 3 if n > 6 else 0 for n in range(13)} | {("refused code", 13): 3}
+# Closes: a loan and a repo of the same two accounts in one row; a repo before a loan of a later row; a loan before a repo of an earlier
+# lender; room for the loans but not for the repos.
+CLOSES = {("close", name): 3 for name in ("same two accounts", "row by row", "loans first", "room for loans alone")}
+SHOWN = CLAIMS | TOGETHER | WAITING | TRACKED | CODES | CLOSES
 
 
 def in_force(table) -> set:
@@ -28,23 +46,13 @@ def in_force(table) -> set:
 
 
 def wanted(numbers) -> set:
-    """What stored data have to show: these answers, and the claim types, alone and together, outcomes, slots and waiting rows in force."""
-    parts = {"answer": numbers, "type": in_force(CLAIM_TYPES), "together": in_force(TOGETHER), "outcome": OUTCOMES, "slot": SLOTS,
-             "waiting": in_force(WAITING)}
-    return {(name, n) for name, values in parts.items() for n in values}
+    """What stored data have to show: these answers, and what is in force of the rest."""
+    return {("answer", n) for n in numbers} | in_force(SHOWN)
 
 
 def parts_of(facts) -> set:
-    """What facts show of what wanted asks for."""
-    parts = set()
-    for name, *numbers in facts:
-        if name == "claim":
-            parts |= set(zip(("type", "outcome", "slot"), numbers))
-        elif name == "together":
-            parts.add((name, tuple(numbers)))
-        elif name in ("answer", "waiting"):
-            parts.add((name, numbers[-1]))
-    return parts
+    """Facts in the form in which wanted asks for them: answers to whatever call."""
+    return {("answer", fact[-1]) if fact[0] == "answer" else fact for fact in facts}
 
 
 def claim_facts(claims) -> set:
@@ -92,6 +100,53 @@ def waiting_facts(cards, tables, day: int, transfer, limits=None) -> set:
     return {("waiting", name) for name, holds in shown.items() if holds}
 
 
+def transfer_facts(ref, cards, call, result, answer) -> set:
+    """What a transfer shows. call: its arguments by name; answer: its number with some of them changed."""
+    unread, transfer = ref.read_record(ref.TRANSFER, call["message"])
+    if unread or result.number in range(1, 6):
+        return set()
+    rules, facts = cards.Rules(CARDS), set()
+    kind = "repo" if transfer.code > 6 else "loan"
+
+    def with_code(code) -> bytes:
+        return ref.record_bytes(transfer._replace(code=code))
+
+    if result.number == 0:
+        facts |= {("code", transfer.code)} | waiting_facts(cards, call["tables"], call["day"], transfer, call.get("limits"))
+        if transfer.code and rules.transfer_claims(call["calendar"], call["tables"], call["day"], 1, transfer._replace(code=0),
+                                                   call.get("limits")):
+            facts.add(("no claim", kind))
+    if result.number == 6 and transfer.code == rules.last_code + 1 and answer(message=with_code(rules.last_code)) != 6:
+        facts.add(("refused code", transfer.code))
+    if result.number > 100 and transfer.code:
+        facts.add(("edit", kind, result.number))
+    if result.number in (0, 7, 8) and transfer.code:
+        words = call["balances"]
+        if answer(balances=words[REPO_AT:] + words[:REPO_AT]) != result.number:
+            facts.add(("apart", kind, "increase" if rules.move(transfer)[1] > 0 else "decrease", result.number))
+    return facts
+
+
+def close_facts(ref, cards, call, result, answer) -> set:
+    """What a close shows of loans beside repos, with arguments as of transfer_facts."""
+    claims = ref.read_claims(result.buffer, result.claims)
+    loans, repos = ([claim for claim in claims if claim.claim_type == kind] for kind in (cards.LENDING, cards.REPO))
+
+    def places(found) -> set:
+        return {(claim.security, claim.row, claim.payee, claim.payer) for claim in found}
+
+    def above(key, value) -> bool:
+        """Whether a loan has a larger value than a repo with the same key."""
+        largest = {key(claim): value(claim) for claim in sorted(loans, key=value)}
+        return any(value(claim) < largest.get(key(claim), 0) for claim in repos)
+
+    shown = {"same two accounts": places(loans) & places(repos),
+             "row by row": above(lambda claim: claim.security, lambda claim: claim.row),
+             "loans first": above(lambda claim: (claim.security, claim.row), lambda claim: claim.payee),
+             "room for loans alone": result.number == 10 and answer(balances=call["balances"][:REPO_AT] + [0] * REPO_AT) == 0}
+    return {("close", name) for name, holds in shown.items() if holds}
+
+
 def reference_modules(folder, *names) -> list:
     """The modules of these names of a folder that holds the reference, and of its folder vectors."""
     sys.dont_write_bytecode = True
@@ -112,7 +167,7 @@ def checksum(numbers) -> int:
 
 
 class Direct:
-    """The reference's direct calls, each on the book and balances that the last one left, and what they show of rows that wait."""
+    """The reference's direct calls, each on the book and balances that the last one left, and what they show."""
 
     def __init__(self, ref, cards):
         self.ref, self.cards, self.rules = ref, cards, cards.Rules(CARDS)
@@ -121,15 +176,17 @@ class Direct:
     def open(self, calendar, tables, day):
         return self.done(self.rules.open(calendar, tables, day, [0] * self.rules.words)).number
 
-    def transfer(self, calendar, tables, message, buffer):
-        day = self.book.day
-        result = self.done(self.rules.transfer(calendar, tables, self.book, self.balances, message, buffer))
-        if result.number == 0:
-            self.facts |= waiting_facts(self.cards, tables, day, self.ref.read_record(self.ref.TRANSFER, message)[1])
-        return result
+    def transfer(self, *arguments):
+        return self.made(self.rules.transfer, transfer_facts, *arguments)
 
-    def close(self, calendar, tables, message, buffer):
-        return self.done(self.rules.close(calendar, tables, self.book, self.balances, message, buffer))
+    def close(self, *arguments):
+        return self.made(self.rules.close, close_facts, *arguments)
+
+    def made(self, form, facts, calendar, tables, message, buffer):
+        call = dict(calendar=calendar, tables=tables, book=self.book, balances=self.balances, message=message, buffer=buffer)
+        result = form(**call)
+        self.facts |= facts(self.ref, self.cards, call | {"day": self.book.day}, result, lambda **other: form(**(call | other)).number)
+        return self.done(result)
 
     def done(self, result):
         self.book, self.balances = result.book, result.balances
@@ -151,8 +208,10 @@ class Steps:
                           + struct.pack("<I", len(message)) + message + struct.pack("<I", room))
 
     def set_tables(self, calendar, tables) -> None:
-        self.calendar, self.tables = list(calendar), list(tables)
-        self.add(TABLES, "", struct.pack("<480I1824I", *calendar, *tables))
+        """No step where they stand already."""
+        if (self.calendar, self.tables) != (list(calendar), list(tables)):
+            self.calendar, self.tables = list(calendar), list(tables)
+            self.add(TABLES, "", struct.pack("<480I1824I", *calendar, *tables))
 
     def set_book(self, day: int, count: int, balances) -> None:
         self.book, self.balances = self.ref.Book(day, count), list(balances)

@@ -3,6 +3,7 @@ from . import claims, layout
 from .errors import Fault
 
 ALLOWED = "for each message its claims and then one answer, in order"
+GIVEN = "fail and interim claims between a transfer's own accounts in its security, lending and repo claims of a close"
 
 
 class Check:
@@ -44,8 +45,7 @@ class Check:
 
     def take_claim(self, claim):
         if not may_claim(self.message, claim):
-            raise self.fault("a claim that message %d cannot give" % self.messages,
-                             "fail and interim claims between a transfer's own accounts in its security, lending claims of a close")
+            raise self.fault("a claim that message %d cannot give" % self.messages, GIVEN)
         if claim.outcome:
             self.notices += 1
         else:

@@ -2,12 +2,13 @@
 from . import dates, layout, message_text
 from .errors import Fault
 
-CLAIM_TYPES = {1: "fail", 2: "interim", 3: "lending"}
+CLAIM_TYPES = {1: "fail", 2: "interim", 3: "lending", 4: "repo"}
 TRANSFER_TYPES = ("fail", "interim")
 NOTICES = {1: "both amounts are zero",
            2: "the payment redeems the security",
            3: "the payer's payment went to a non-interest-bearing account"}
 TIMES = {1: "8:05", 2: "8:45", 3: "during the day"}
+SHORT_TYPES = {"lending": "loan"}
 SHORT_NOTICES = {1: "both zero", 2: "redeemed", 3: "restricted"}
 SHORT_TIMES = {1: "8:05", 2: "8:45", 3: "day"}
 MARKET_NAMES = {number: name for name, number in layout.MARKETS.items()}

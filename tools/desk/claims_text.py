@@ -77,7 +77,8 @@ def claim_cells(entry, book, names):
     claim = entry.record
     coupon = "row %d" % claim.row if book is None else claims.beneficiary_date(book, claim)
     kind = claims.type_of(claim)
-    return (str(entry.number), "%s %d" % (kind, claim.transfer) if kind in claims.TRANSFER_TYPES else "loan",
+    about = "%s %d" % (kind, claim.transfer) if kind in claims.TRANSFER_TYPES else claims.SHORT_TYPES.get(kind, kind)
+    return (str(entry.number), about,
             names.account_label(claim.payer), names.account_label(claim.payee), names.security_label(claim.security), coupon,
             claims.money(claim.interest), claims.money(claim.principal), claims.release_date(claim) or "notice",
             claims.SHORT_NOTICES[claim.outcome] if claim.outcome else claims.SHORT_TIMES.get(claim.slot, "slot %d" % claim.slot))

@@ -19,9 +19,12 @@ LINE = 64
 TYPES = {"Treasury": 1, "non-Treasury debt": 2, "agency MBS": 3, "US-guaranteed MBS": 4}
 FREQUENCIES = {"monthly": 1, "quarterly": 2, "semiannual": 3, "annual": 4}
 MARKETS = {"secondary": 0, "other": 1}
-CODES = {"none": 0, "SLST": 1, "SLRV": 2, "CLSL": 3, "CLSR": 4, "ADSL": 5, "ADSR": 6}
+CODES = {"none": 0, "SLST": 1, "SLRV": 2, "CLSL": 3, "CLSR": 4, "ADSL": 5, "ADSR": 6,
+         "RPST": 7, "RPRV": 8, "CLRP": 9, "CLRV": 10, "ADRP": 11, "ADRV": 12}
 CODE_WORDS = {"none": "none", "SLST": "loan start", "SLRV": "loan start reversal", "CLSL": "loan return",
-              "CLSR": "loan return reversal", "ADSL": "balance-only increase", "ADSR": "balance-only decrease"}
+              "CLSR": "loan return reversal", "ADSL": "loan balance increase", "ADSR": "loan balance decrease",
+              "RPST": "repo start", "RPRV": "repo start reversal", "CLRP": "repo close",
+              "CLRV": "repo close reversal", "ADRP": "repo balance increase", "ADRV": "repo balance decrease"}
 ROW_WORD_NAMES = ("Record Date", "Beneficiary Date", "Payment Date", "interest", "principal", "final", "restricted")
 
 HEADER = struct.Struct("<HH")

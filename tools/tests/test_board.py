@@ -176,6 +176,14 @@ class Board(Pages):
             self.assertEqual(re.findall(r"Beneficiary Date \w+ 1 (\w+) 2023: (claimed|not claimed)", folded),
                              [("Apr", april), ("May", may)] * 2)
 
+    def test_tracking_codes_by_their_words(self):
+        """A loan and a repo settle without a claim, each under its name."""
+        page = self.parsed((BOOK + PAIR).replace('title = "One"', 'title = "One"\ncode = "SLST"')
+                           .replace('title = "Other"', 'title = "Other"\ncode = "RPST"'))
+        for words in ("SLST, loan start", "RPST, repo start"):
+            self.assertIn(words, page.words)
+        self.assertEqual(page.folded.count("Nobody owes anything."), 2)
+
     def test_dates_have_one_form(self):
         for source in (WORKSHOP, TWO_ROWS):
             page = self.parsed(source)

@@ -14,7 +14,7 @@ CLOSE = bytes([2, 0, 2, 0])
 TRANSFER = content(CASE_MESSAGES)
 OUTPUT = content(CASE_OUTPUT)
 INTERIM = claim(2)
-LENDING = claim(3, transfer=0)
+LENDING, REPO = claim(3, transfer=0), claim(4, transfer=0)
 VECTORS = os.path.join(common.ROOT, "crates", "vectors", "data", "streams.in")
 
 
@@ -60,8 +60,8 @@ class Checks(common.Desk):
 
     def test_counts(self):
         notice = claim(outcome=3, release=0, slot=0)
-        self.assertEqual(self.agreed(TRANSFER * 2 + CLOSE * 1200, OUTPUT + notice * 2 + answer(0) + answer(0) * 1199 + LENDING + answer(0)),
-                         "1,202 messages, 1,202 answers, 2 claims, 2 notices\n")
+        output = OUTPUT + notice * 2 + answer(0) + answer(0) * 1199 + LENDING + REPO + answer(0)
+        self.assertEqual(self.agreed(TRANSFER * 2 + CLOSE * 1200, output), "1,202 messages, 1,202 answers, 3 claims, 2 notices\n")
         self.assertEqual(self.agreed(b"", b""), "0 messages, 0 answers, 0 claims, 0 notices\n")
 
     def test_interim_claims_are_a_transfers(self):
@@ -108,8 +108,9 @@ class Checks(common.Desk):
         self.refused("record 2, byte 35: message 1 is refused with 6, and there are claims of it", TRANSFER, OUTPUT[:35] + answer(6))
 
     def test_claims_of_other_messages(self):
-        for messages, record in ((CLOSE, claim()), (CLOSE, INTERIM), (TRANSFER, LENDING), (TRANSFER, claim(payer=3)),
-                                 (TRANSFER, claim(payee=3)), (TRANSFER, claim(2, payee=3)), (TRANSFER, claim(security=1)), (b"\2", claim())):
+        for messages, record in ((CLOSE, claim()), (CLOSE, INTERIM), (TRANSFER, LENDING), (TRANSFER, claim(4)), (TRANSFER, claim(payer=3)),
+                                 (TRANSFER, claim(payee=3)), (TRANSFER, claim(2, payee=3)), (TRANSFER, claim(security=1)), (b"\2", claim()),
+                                 (b"\2", REPO)):
             self.refused("record 1, byte 0: a claim that message 1 cannot give", messages, record + answer(0))
 
     def test_a_failed_check_writes_no_file(self):

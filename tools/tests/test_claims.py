@@ -39,12 +39,13 @@ class Claims(common.Desk):
 
     def test_types(self):
         """Each claim type by its word in each form; the table tells the claims of a transfer by its number."""
-        for kind, word, short in ((1, "fail", "fail 7"), (2, "interim", "interim 7"), (3, "lending", "loan")):
-            data = claim(kind, transfer=7 * (kind != 3)) + answer(0)
+        for kind, word, short, transfer in ((1, "fail", "fail 7", 7), (2, "interim", "interim 7", 7), (3, "lending", "loan", 0),
+                                            (4, "repo", "repo", 0)):
+            data = claim(kind, transfer=transfer) + answer(0)
             self.assertIn("  1  %s  " % short, self.shown(data).split("\n")[1])
             rows = list(csv.DictReader(io.StringIO(self.shown(data, "--format", "csv"))))
             for found in (rows[0], self.objects(data)[0]):
-                self.assertEqual((found["type"], str(found.get("transfer", ""))), (word, "" if kind == 3 else "7"))
+                self.assertEqual((found["type"], str(found.get("transfer", ""))), (word, "7" if transfer else ""))
 
     def test_standard_input(self):
         self.assertEqual(self.good("claims", "show", given=OUTPUT).decode(), self.shown(OUTPUT))
@@ -77,10 +78,11 @@ class Claims(common.Desk):
     def test_notices_with_their_reasons(self):
         for outcome, short, reason in ((1, "both zero", "both amounts are zero"), (2, "redeemed", "the payment redeems the security"),
                                        (3, "restricted", "the payer's payment went to a non-interest-bearing account")):
-            data = claim(3, outcome, transfer=0, release=0, slot=0) + answer(0)
-            line = self.shown(data).split("\n")[1]
-            self.assertTrue(" loan " in line and line.endswith("  notice   " + short), line)
-            self.assertEqual(self.objects(data)[0]["reason"], reason)
+            for kind, word in ((3, " loan "), (4, " repo ")):
+                data = claim(kind, outcome, transfer=0, release=0, slot=0) + answer(0)
+                line = self.shown(data).split("\n")[1]
+                self.assertTrue(word in line and line.endswith("  notice   " + short), line)
+                self.assertEqual(self.objects(data)[0]["reason"], reason)
 
     def test_times(self):
         for slot, time in ((1, "8:05"), (2, "8:45"), (3, "day")):
@@ -185,7 +187,7 @@ class Claims(common.Desk):
                             (OUTPUT[:3], "byte 0: the record that begins here is cut short"),
                             (OUTPUT + b"\2\0\2\0", "byte 41: no claim or answer begins here (bytes 02 00 02 00)"),
                             (answer(12), "byte 0: the answer 12 has no meaning"),
-                            (answer(0) + claim(kind=4), "byte 6: a claim with type 4; allowed: 1, 2, 3"),
+                            (answer(0) + claim(kind=5), "byte 6: a claim with type 5; allowed: 1, 2, 3, 4"),
                             (claim(outcome=4), "a claim with outcome 4"), (claim(payer=16), "a claim with payer 16"),
                             (claim(payee=16), "a claim with payee 16"), (claim(security=16), "a claim with security 16"),
                             (claim(row=16), "a claim with row 16"), (claim(slot=4), "a claim with slot 4")):

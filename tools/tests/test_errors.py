@@ -122,7 +122,7 @@ MESSAGE_ERRORS = (
     ("par = 200_000", "", (":25: [[message]] 1, par: is missing",)),
     ("par = 200_000", "pra = 200_000", (":29: [[message]] 1, pra: unknown key (meant: par?)", "close, sender")),
     ("par = 200_000", 'par = 1\ncode = "SLTS"',
-     (':30: [[message]] 1, code: "SLTS" is not known', "none, SLST, SLRV, CLSL, CLSR, ADSL, ADSR")),
+     (':30: [[message]] 1, code: "SLTS" is not known', "none, SLST, SLRV, CLSL, CLSR, ADSL, ADSR, RPST, RPRV, CLRP, CLRV, ADRP, ADRV")),
     ("par = 200_000", "par = 1\ncode = 1", ("1 is not known", "SLST")),
     ("par = 200_000", 'par = 1\nmarket = "primary"', ('"primary" is not known', "secondary, other")),
     ("contract_date = 2023-03-15", 'contract_date = "15 March"',

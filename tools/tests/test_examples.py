@@ -6,6 +6,7 @@ import unittest
 
 import common
 from common import EXAMPLES, content
+from desk import layout
 
 STORED = os.path.join(EXAMPLES, "output")
 FORMS = {".txt": "text", ".csv": "csv", ".json": "json"}
@@ -56,14 +57,14 @@ class Examples(common.Desk):
                            claim["security_name"], claim["release_date"]) for claim in found],
                          [("Example 2", "interim", "Bank X/1020", "Bank Y/1030", "CUSIP B", "2026-12-15")])
 
-    def test_attachment_2_lending(self):
-        """The three claims are on the memo's balances of 15,000, 50,000 and 10,000 at factor 0.004."""
-        found = self.claims("attachment-2-lending.toml")[1]
-        self.assertEqual([(claim["payer_name"], claim["payee_name"], claim["security_name"], claim["interest"],
-                           claim["release_date"]) for claim in found], [
-            ("Bank Y/1050", "Bank X/1010", "CUSIP A", "60.00", "2024-02-15"),
-            ("Bank Z/1030", "Bank X/1010", "CUSIP B", "200.00", "2024-02-15"),
-            ("Bank X/1010", "Bank Z/1030", "CUSIP B", "40.00", "2024-02-15")])
+    def test_attachment_2_balances(self):
+        """The claims are on the memo's balances of 15,000 and 50,000 at factor 0.004, and for lending on 10,000 the other way too."""
+        both = [("Bank Y/1050", "Bank X/1010", "CUSIP A", "60.00", "2024-02-15"),
+                ("Bank Z/1030", "Bank X/1010", "CUSIP B", "200.00", "2024-02-15")]
+        for kind, others in (("repo", []), ("lending", [("Bank X/1010", "Bank Z/1030", "CUSIP B", "40.00", "2024-02-15")])):
+            found = self.claims("attachment-2-%s.toml" % kind)[1]
+            self.assertEqual([(claim["type"], claim["payer_name"], claim["payee_name"], claim["security_name"], claim["interest"],
+                               claim["release_date"]) for claim in found], [(kind, *claim) for claim in both + others])
 
     def test_long_delay(self):
         """June and July wait on 21 July, July alone on the 25th; only the second transfer's Contract Date lies behind June."""
@@ -82,11 +83,11 @@ class Examples(common.Desk):
     def test_busy_day_has_everything(self):
         calls, found = self.claims("busy-day.toml")
         words = {call.get(key) for call in calls.values() for key in ("call", "code", "market")}
-        for code in ("transfer", "SLST", "SLRV", "CLSL", "CLSR", "ADSL", "ADSR", "close", "other"):
+        for code in ("transfer", *layout.CODES, "close", "other"):
             self.assertIn(code, words)
         self.assertEqual({(claim["type"], claim["outcome"]) for claim in found},
-                         {("fail", 0), ("fail", 3), ("interim", 0), ("interim", 3), ("lending", 0), ("lending", 1), ("lending", 2),
-                          ("lending", 3)})
+                         {("fail", 0), ("fail", 3), ("interim", 0), ("interim", 3)}
+                         | {(kind, outcome) for kind in ("lending", "repo") for outcome in range(4)})
         self.assertEqual({claim["time"] for claim in found if "time" in claim}, {"8:05", "8:45", "during the day"})
 
     def readme_block(self, first, *place):

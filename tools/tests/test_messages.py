@@ -32,7 +32,8 @@ class Messages(common.Desk):
                          "contract_date = 2023-03-15\n")
 
     def test_codes_by_their_tags(self):
-        for code, tag in enumerate(("none", "SLST", "SLRV", "CLSL", "CLSR", "ADSL", "ADSR")):
+        tags = "none SLST SLRV CLSL CLSR ADSL ADSR RPST RPRV CLRP CLRV ADRP ADRV"
+        for code, tag in enumerate(tags.split()):
             text = '[[message]]\nsender = 1\nreceiver = 2\nsecurity = 0\npar = 200_000\ncode = "%s"\n' % tag
             self.assertEqual(self.made(text), record(code=code))
             self.assertEqual('code = "%s"' % tag in self.back(record(code=code)), code > 0)
@@ -62,7 +63,7 @@ class Messages(common.Desk):
                 self.back(record(line2=line, fill=fill))
 
     def test_fields_out_of_range_as_hex(self):
-        for fields in ({"sender": 200}, {"receiver": 16}, {"receiver": 1}, {"security": 16}, {"market": 2}, {"code": 7},
+        for fields in ({"sender": 200}, {"receiver": 16}, {"receiver": 1}, {"security": 16}, {"market": 2}, {"code": 13},
                        {"par": 0}, {"par": 100_000_001}, {"par": 2 ** 32 - 1}):
             self.assertIn("hex = ", self.back(record(**fields)))
 

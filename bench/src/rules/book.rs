@@ -4,7 +4,7 @@ use super::days::{self, Calendar};
 use super::records::{self, Transfer};
 use super::tables::{self, Tables};
 use super::tags;
-use super::{BALANCE_WORDS, Book, Done};
+use super::{BALANCE_WORDS, Book, Done, TRACKING_WORDS};
 
 pub type Balances = [u64; BALANCE_WORDS];
 
@@ -38,7 +38,7 @@ fn judge_day(calendar: &Calendar, day: u32) -> Result<(), u16> {
 
 fn judge_balances(balances: &Balances) -> Result<(), u16> {
     let too_large = balances.iter().any(|&par| par > MOST_LENT);
-    let own = balances.as_chunks::<256>().0.iter().flat_map(|loans| loans.iter().step_by(17));
+    let own = balances.as_chunks::<256>().0.iter().flat_map(|pars| pars.iter().step_by(17));
     let own = own.fold(0, |all, &par| all | par);
     if too_large || own != 0 {
         return Err(4);
@@ -71,7 +71,7 @@ impl<'a> Sound<'a> {
             || transfer.receiver > 15
             || !used
             || transfer.class > 1
-            || transfer.code > 6
+            || transfer.code > 12
             || !(1..=MOST_PAR).contains(&transfer.par)
             || transfer.sender == transfer.receiver
         {
@@ -80,11 +80,12 @@ impl<'a> Sound<'a> {
         Ok(())
     }
 
-    /// The word of the balances that a transfer changes and what it becomes.
-    fn loan(&self, transfer: &Transfer) -> Result<Option<(usize, u64)>, u16> {
-        let word = |lender, borrower| 256 * transfer.security as usize + 16 * lender as usize + borrower as usize;
+    /// The word of the balances that a transfer changes and what it becomes: codes 7 to 12 do on repo what 1 to 6 do on loan.
+    fn tracked(&self, transfer: &Transfer) -> Result<Option<(usize, u64)>, u16> {
+        let (start, step) = if transfer.code > 6 { (TRACKING_WORDS, transfer.code - 6) } else { (0, transfer.code) };
+        let word = |lender, borrower| start + 256 * transfer.security as usize + 16 * lender as usize + borrower as usize;
         let par = transfer.par as u64;
-        match transfer.code {
+        match step {
             1 | 4 | 5 => {
                 let at = word(transfer.sender, transfer.receiver);
                 let after = self.balances[at] + par;
@@ -105,12 +106,12 @@ impl<'a> Sound<'a> {
         self.judge_fields(&transfer)?;
         let contract = tags::contract_date(transfer.lines, self.book.day, transfer.class)?;
         let number = self.book.count.checked_add(1).ok_or(11u16)?;
-        let loan = self.loan(&transfer)?;
+        let tracked = self.tracked(&transfer)?;
         let written = match transfer.code {
             0 => claims::write_transfer(self.calendar, self.tables, self.book.day, number, &transfer, contract, claims)?,
             _ => 0,
         };
-        if let Some((at, after)) = loan {
+        if let Some((at, after)) = tracked {
             self.balances[at] = after;
         }
         self.book.count = number;
@@ -125,7 +126,7 @@ impl<'a> Sound<'a> {
         let from = self.book.day;
         let to = days::open_after(self.calendar, from).ok_or(4u16)?;
         days::open_after(self.calendar, to).ok_or(9u16)?;
-        let written = claims::write_lending(self.calendar, self.tables, self.balances, from, to, claims)?;
+        let written = claims::write_close(self.calendar, self.tables, self.balances, from, to, claims)?;
         self.book.day = to;
         Ok(written)
     }

@@ -1,4 +1,6 @@
 //! Amounts, outcomes and release of claims; the claims of a transfer and of a close.
+use super::TRACKING_WORDS;
+use super::book::Balances;
 use super::days::{self, Calendar};
 use super::records::{CLAIM_BYTES, Claim, Transfer};
 use super::tables::{self, Row, Security, Tables};
@@ -7,6 +9,7 @@ use std::ops::Range;
 const FAIL: u8 = 1;
 const INTERIM: u8 = 2;
 const LENDING: u8 = 3;
+const REPO: u8 = 4;
 
 /// Cents on a par by a factor, half a cent up.
 fn cents(par: u64, factor: u32) -> u64 {
@@ -28,11 +31,12 @@ struct Due<'a> {
 
 fn claim(calendar: &Calendar, day: u32, due: &Due) -> Claim {
     let [_, _, payment, interest, principal, is_final, mask] = *due.words;
+    let is_tracked = matches!(due.claim_type, LENDING | REPO);
     let interest = cents(due.par, interest);
     let principal = cents(due.par, principal);
     let outcome = if interest == 0 && principal == 0 {
         1
-    } else if due.claim_type == LENDING && is_final == 1 {
+    } else if is_tracked && is_final == 1 {
         2
     } else if mask >> due.payer & 1 == 1 {
         3
@@ -41,7 +45,7 @@ fn claim(calendar: &Calendar, day: u32, due: &Due) -> Claim {
     };
     let (release, slot) = if outcome != 0 {
         (0, 0)
-    } else if due.claim_type != LENDING && payment <= day {
+    } else if !is_tracked && payment <= day {
         (days::open_after(calendar, day).unwrap_or(0), 2)
     } else {
         let slot = if matches!(due.kind, 1 | 4) { 1 } else { 3 };
@@ -157,41 +161,43 @@ fn crossed(security: &Security, from: u32, to: u32) -> impl Iterator<Item = (usi
     rows.filter(move |(_, row)| from < row[0] && row[0] <= to)
 }
 
-/// The lending claims of a close from one day to another, written from the buffer's start, or 10.
-pub fn write_lending(
+/// The lending and repo claims of a close from one day to another, written from the buffer's start, or 10.
+pub fn write_close(
     calendar: &Calendar,
     tables: &Tables,
-    balances: &[u64],
+    balances: &Balances,
     from: u32,
     to: u32,
     buffer: &mut [u8],
 ) -> Result<usize, u16> {
-    let loans = balances.as_chunks::<256>().0;
-    let books = || tables::securities(tables).iter().zip(loans);
+    let (loans, repos) = balances.as_chunks::<256>().0.split_at(TRACKING_WORDS / 256);
+    let books = || tables::securities(tables).iter().zip(loans.iter().zip(repos));
     let count = books()
-        .map(|(security, loans)| match crossed(security, from, to).count() {
+        .map(|(security, (loans, repos))| match crossed(security, from, to).count() {
             0 => 0,
-            rows => rows * loans.iter().filter(|&&par| par > 0).count(),
+            rows => rows * loans.iter().chain(repos).filter(|&&par| par > 0).count(),
         })
         .sum();
     let room = buffer.get_mut(..CLAIM_BYTES * count).ok_or(10u16)?;
     let mut records = room.as_chunks_mut::<CLAIM_BYTES>().0.iter_mut();
-    for (number, (security, loans)) in books().enumerate() {
+    for (number, (security, (loans, repos))) in books().enumerate() {
         for (row, words) in crossed(security, from, to) {
-            for (place, &par) in loans.iter().enumerate().filter(|(_, par)| **par > 0) {
-                let due = Due {
-                    claim_type: LENDING,
-                    payer: (place % 16) as u8,
-                    payee: (place / 16) as u8,
-                    security: number as u8,
-                    kind: security[0],
-                    row: row as u8,
-                    words,
-                    transfer: 0,
-                    par,
-                };
-                if let Some(record) = records.next() {
-                    *record = claim(calendar, from, &due).bytes();
+            for (claim_type, pars) in [(LENDING, loans), (REPO, repos)] {
+                for (place, &par) in pars.iter().enumerate().filter(|(_, par)| **par > 0) {
+                    let due = Due {
+                        claim_type,
+                        payer: (place % 16) as u8,
+                        payee: (place / 16) as u8,
+                        security: number as u8,
+                        kind: security[0],
+                        row: row as u8,
+                        words,
+                        transfer: 0,
+                        par,
+                    };
+                    if let Some(record) = records.next() {
+                        *record = claim(calendar, from, &due).bytes();
+                    }
                 }
             }
         }
