@@ -21,7 +21,7 @@ pub record Position : Type 0 where
   pub lender : ℕ
   pub borrower : ℕ
 
--- A position of the book's 16 securities and 16 accounts.
+-- A position of the book's two trackings, 16 securities and 16 accounts.
 pub record InRange (p : Position) : Type 0 where
   pub tracking : p .tracking < 2
   pub security : p .security < 16

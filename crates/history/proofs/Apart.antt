@@ -39,23 +39,24 @@ word-tracking : (tracking s l b : ℕ) → s < 16 → l < 16 → b < 16 → (w :
 word-tracking tracking s l b hs hl hb w e k a u = omega arith
 
 module _ (t : Transfer) (f : Fields t) (k w : ℕ) (d : ¬ OfTracking k (t .code)) (a : 4096 * k ≤ w) (u : w < 4096 * k + 4096) where
-  -- with a code of another tracking, the word is another
+  -- with a code of another tracking, the word of a position in it is another
   not-own : 0 < stepOf (t .code) → k ≢ trackingOf (t .code)
   not-own h e = d (rw e (own-tracking (t .code) (f .code) h))
 
+  other-word : 0 < stepOf (t .code) → (l b : ℕ) → l < 16 → b < 16
+      → w ≢ word (record { tracking = trackingOf (t .code); security = t .security; lender = l; borrower = b })
+  unfolding word
+  other-word h l b hl hb e = not-own h (word-tracking (trackingOf (t .code)) (t .security) l b (f .security) hl hb w e k a u)
+
   elsewhere : (balances : List ℕ) → getD (changed balances (changeOf t) (t .par)) w 0 ≡ getD balances w 0
-  unfolding changeOf
+  unfolding changeOf changed bySender byReceiver
   elsewhere balances = go (increasing (stepOf (t .code))) (decreasing (stepOf (t .code))) refl refl
     where
       go : (x y : Bool) → increasing (stepOf (t .code)) ≡ x → decreasing (stepOf (t .code)) ≡ y
           → getD (changed balances (cond x (increase (bySender t)) (cond y (decrease (byReceiver t)) unchanged)) (t .par)) w 0 ≡ getD balances w 0
-      go true y e g =
-          unfold changed in getD-set-other balances (word (bySender t)) w _ 0
-          (λ z. not-own (increasing-above _ e) (word-tracking (trackingOf (t .code)) (t .security) (t .sender) (t .receiver) (f .security) (f .sender) (f .receiver) w (z ∙ (unfold word bySender in refl)) k a u))
-      go false true e g =
-          unfold changed in getD-set-other balances (word (byReceiver t)) w _ 0
-          (λ z. not-own (decreasing-above _ g) (word-tracking (trackingOf (t .code)) (t .security) (t .receiver) (t .sender) (f .security) (f .receiver) (f .sender) w (z ∙ (unfold word byReceiver in refl)) k a u))
-      go false false e g = unfold changed in refl
+      go true y e g = getD-set-other balances _ w _ 0 (other-word (increasing-above _ e) (t .sender) (t .receiver) (f .sender) (f .receiver))
+      go false true e g = getD-set-other balances _ w _ 0 (other-word (decreasing-above _ g) (t .receiver) (t .sender) (f .receiver) (f .sender))
+      go false false e g = refl
 
 pub every-call-apart : EveryCallApart
 unfolding result resultFor nextBalances
