@@ -6,7 +6,8 @@ use lib.Dec.{eqb}
 use lib.ListN.{getD}
 use Rattle.lists.specs.Tabulate.{tabulate}
 
--- 8,192 words hold the balances, 4,096 of lending and then 4,096 of repo: 16 securities, 16 lenders, 16 borrowers each.
+-- 8,192 words hold the balances, 4,096 of lending and then 4,096 of repo (document 02, card 3): 16 securities, 16 lenders, 16 borrowers
+-- each.
 abbrev pub balanceWords : ℕ
 balanceWords = 8192
 

@@ -86,7 +86,6 @@ code-test c k n h l m = go (ℕ-discrete (trackingOf c) k) (ℕ-discrete (stepOf
     go (no d) q =
         rw (ne-eqb c (6 * k + n) (λ e. d (omega (arith, code-parts c, step-bound c h, step-above c (omega (arith, e)), e))), ne-eqb (trackingOf c) k d)
 
--- three of them
 and-or : (a x y z : Bool) → ((a && x) || (a && y) || (a && z)) ≡ (a && (x || y || z))
 and-or true x y z = refl
 and-or false x y z = refl
@@ -101,32 +100,29 @@ and-turn false true false = refl
 and-turn false false true = refl
 and-turn false false false = refl
 
+-- one of three codes of a tracking, between two parties
+three-codes : (c k x y z : ℕ) (parties : Bool) → c ≤ 12 → 0 < x → x ≤ 6 → 0 < y → y ≤ 6 → 0 < z → z ≤ 6
+    → (parties && (eqb c (6 * k + x) || eqb c (6 * k + y) || eqb c (6 * k + z)))
+    ≡ ((eqb (stepOf c) x || eqb (stepOf c) y || eqb (stepOf c) z) && (eqb (trackingOf c) k && parties))
+three-codes c k x y z parties h x0 x6 y0 y6 z0 z6 =
+    rw (
+      code-test c k x h x0 x6,
+      code-test c k y h y0 y6,
+      code-test c k z h z0 z6,
+      and-or (eqb (trackingOf c) k) (eqb (stepOf c) x) (eqb (stepOf c) y) (eqb (stepOf c) z),
+    )
+    (and-turn (eqb (trackingOf c) k) (eqb (stepOf c) x || eqb (stepOf c) y || eqb (stepOf c) z) parties)
+
 -- an increase changes the sender's loan to the receiver, a decrease the receiver's to the sender
 increase-test : (t : Transfer) (p : Position) → t .code ≤ 12 → isIncrease t p ≡ (increasing (stepOf (t .code)) && same (bySender t) p)
 unfolding isIncrease increasing same bySender
 increase-test t p h =
-    let k = p .tracking in
-    let c = t .code in
-    rw (
-      code-test c k 1 h (omega arith) (omega arith),
-      code-test c k 4 h (omega arith) (omega arith),
-      code-test c k 5 h (omega arith) (omega arith),
-      and-or (eqb (trackingOf c) k) (eqb (stepOf c) 1) (eqb (stepOf c) 4) (eqb (stepOf c) 5),
-    )
-    (and-turn (eqb (trackingOf c) k) (eqb (stepOf c) 1 || eqb (stepOf c) 4 || eqb (stepOf c) 5) _)
+    three-codes (t .code) (p .tracking) 1 4 5 _ h (omega arith) (omega arith) (omega arith) (omega arith) (omega arith) (omega arith)
 
 decrease-test : (t : Transfer) (p : Position) → t .code ≤ 12 → isDecrease t p ≡ (decreasing (stepOf (t .code)) && same (byReceiver t) p)
 unfolding isDecrease decreasing same byReceiver
 decrease-test t p h =
-    let k = p .tracking in
-    let c = t .code in
-    rw (
-      code-test c k 2 h (omega arith) (omega arith),
-      code-test c k 3 h (omega arith) (omega arith),
-      code-test c k 6 h (omega arith) (omega arith),
-      and-or (eqb (trackingOf c) k) (eqb (stepOf c) 2) (eqb (stepOf c) 3) (eqb (stepOf c) 6),
-    )
-    (and-turn (eqb (trackingOf c) k) (eqb (stepOf c) 2 || eqb (stepOf c) 3 || eqb (stepOf c) 6) _)
+    three-codes (t .code) (p .tracking) 2 3 6 _ h (omega arith) (omega arith) (omega arith) (omega arith) (omega arith) (omega arith)
 
 -- an increased position has the fields of the transfer
 pub increase-range : (t : Transfer) (p : Position) → isIncrease t p ≡ true → Fields t → InRange p
