@@ -1,10 +1,10 @@
 -- The lengths of the 480 months: each law is one computed test over all of them.
 use mathlib.Core.Path.{_≡_, refl, sym, ap₂, _∙_}
-use mathlib.Core.Bool.{Bool, true, cond}
-use Prim.Native.Nat.{ℕ, _+_, _-_, _/_, _%_, _≤_, _<_}
+use mathlib.Core.Bool.{Bool, true}
+use Prim.Native.Nat.{ℕ, _+_, _-_, _*_, _/_, _%_, _≤_, _<_}
 use native.Mathlib.Omega.{arith}
 use lib.Dec.{eqb, leb, lit≤}
-use borrow.Author.Tests.{eqb-true, leb-true, ne-eqb}
+use borrow.Author.Tests.{eqb-true, leb-true}
 use Rattle.lists.specs.Tests.{below, below-at}
 use Rattle.days.specs.Days.{leapDay, monthLength, lengthOf}
 
@@ -21,24 +21,38 @@ at-month f t y m hy ly hm lm =
     ∙ below-at (λ m. f (2000 + (y - 2000)) (1 + m)) 12
     (below-at (λ y. below (λ m. f (2000 + y) (1 + m)) 12) 40 t (y - 2000) (omega arith)) (m - 1) (omega arith)
 
--- the last arm of the cases
-rest : ℕ → ℕ → Bool
-rest y m = cond (eqb m 4) true (cond (eqb m 6) true (cond (eqb m 9) true (cond (eqb m 11) true (cond (eqb m 2) true (eqb 31 (monthLength y m))))))
+-- ---- the code's arithmetic
+
+-- 1 in the months of 31 days, 0 in the others
+abbrev pub long : ℕ → ℕ
+long m = (m + m / 8) % 2
+
+-- 1 in February, 0 in the others
+abbrev pub february : ℕ → ℕ
+february m = (m + 9) % 12 / 11
+
+-- how many of 30 days a month lacks
+abbrev pub lacking : ℕ → ℕ → ℕ
+lacking m leap = february m * (2 - leap)
 
 module _ (y m : ℕ) (hy : 2000 ≤ y) (ly : y < 2040) (hm : 1 ≤ m) (lm : m ≤ 12) where
-  pub length-31 : (m ≡ 4 → ⊥) → (m ≡ 6 → ⊥) → (m ≡ 9 → ⊥) → (m ≡ 11 → ⊥) → (m ≡ 2 → ⊥) → 31 ≡ monthLength y m
-  unfolding rest monthLength leapDay months below
-  length-31 a b c d e =
-      eqb-true _ _ (simp (ne-eqb m 4 a, ne-eqb m 6 b, ne-eqb m 9 c, ne-eqb m 11 d, ne-eqb m 2 e) at (at-month rest refl y m hy ly hm lm))
+  -- each of the 480 months has the length that is written out for it
+  pub by-formula : 30 + long m - lacking m (leapDay y) ≡ monthLength y m
+  unfolding monthLength leapDay months below
+  by-formula = eqb-true _ _ (at-month (λ y m. eqb (30 + long m - lacking m (leapDay y)) (monthLength y m)) refl y m hy ly hm lm)
+
+  pub lacking-le : lacking m (leapDay y) ≤ 2
+  unfolding leapDay months below
+  lacking-le = leb-true _ _ (at-month (λ y m. leb (lacking m (leapDay y)) 2) refl y m hy ly hm lm)
 
   pub length-le : monthLength y m ≤ 31
   unfolding monthLength leapDay months below
   length-le = leb-true _ _ (at-month (λ y m. leb (monthLength y m) 31) refl y m hy ly hm lm)
 
 -- in these years every fourth has the leap day
-pub leap-fourth : (y : ℕ) → 2000 ≤ y → y < 2040 → leapDay y ≡ cond (eqb (y % 4) 0) 1 0
+pub leap-fourth : (y : ℕ) → 2000 ≤ y → y < 2040 → (4 - y % 4) / 4 ≡ leapDay y
 unfolding leapDay months below
-leap-fourth y hy ly = eqb-true _ _ (at-month (λ y m. eqb (leapDay y) (cond (eqb (y % 4) 0) 1 0)) refl y 1 hy ly (lit≤ tt) (lit≤ tt))
+leap-fourth y hy ly = eqb-true _ _ (at-month (λ y m. eqb ((4 - y % 4) / 4) (leapDay y)) refl y 1 hy ly (lit≤ tt) (lit≤ tt))
 
 -- the month of a word
 pub word-length-le : (m : ℕ) → m < 480 → lengthOf m ≤ 31

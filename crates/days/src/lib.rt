@@ -4,7 +4,7 @@ ghost use mathlib.Core.Path.{_≡_};
 ghost use mathlib.Core.Bool.{true};
 ghost use Prim.Native.Nat.{_+_, _*_, _-_, _≤_, _<_};
 ghost use lib.ListN.{length, drop};
-ghost use Rattle.days.specs.Days.{isDate, monthLength, checked, wordOf, dateOf, badFrom, badCalendar, isOpen, lowestFrom, seekFrom, openAt, openAfter, openFrom, lastOpen, asDay};
+ghost use Rattle.days.specs.Days.{isDate, leapDay, monthLength, checked, wordOf, dateOf, badFrom, badCalendar, isOpen, lowestFrom, seekFrom, openAt, openAfter, openFrom, lastOpen, asDay};
 
 // A date: the number yyyymmdd.
 pub struct Date(pub u32);
@@ -54,16 +54,23 @@ impl Date {
     }
 }
 
-// The length of month m of year y.
+// The leap day of year y, 1 or 0. In these years every fourth has one: 4 - y % 4 is 4 there, and less elsewhere.
+fn leap_day(y: u32) -> u32
+    requires { ⌜ (2000 ≤ y) × (y < 2040) ⌝ }
+    ensures { λ r. ⌜ r ≡ leapDay y ⌝ }
+{
+    (4 - y % 4) / 4
+}
+
+// The length of month m of year y. A long month has 31 days: up to July the odd ones are long, and from August on, where m / 8 is 1, the
+// even ones. Counted from March as 0, February is month 11, the last. It lacks two days of 30, one where there is a leap day.
 pub fn month_length(y: u32, m: u32) -> u32
     requires { ⌜ (2000 ≤ y) × (y < 2040) × (1 ≤ m) × (m ≤ 12) ⌝ }
     ensures { λ r. ⌜ r ≡ monthLength y m ⌝ }
 {
-    match m {
-        4 | 6 | 9 | 11 => 30,
-        2 => { if y % 4 == 0 { 29 } else { 28 } }
-        _ => 31,
-    }
+    let long = (m + m / 8) % 2;
+    let february = (m + 9) % 12 / 11;
+    30 + long - february * (2 - leap_day(y))
 }
 
 // The word of a date's month.

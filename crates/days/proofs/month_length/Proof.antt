@@ -1,39 +1,50 @@
--- Each arm gives the length that the definition has written out for its months.
-use mathlib.Core.Path.{sym, ap}
-use mathlib.Core.Logic.{⊎-elim, inl, inr}
-use borrow.Author.Tests.{eq-eqb, ne-eqb}
-use Rattle.days.specs.Days.{monthLength}
-use Rattle.days.proofs.Lengths.{leap-fourth, length-31}
+-- The arithmetic gives the length that the definition has written out.
+use mathlib.Core.Path.{subst⁻¹}
+use Prim.Native.Nat.{ℕ, _≤_}
+use native.Mathlib.Omega.{arith}
+use Rattle.days.proofs.Lengths.{lacking, lacking-le, leap-fourth, by-formula}
+use borrow.Author.Needs.{needs}
 use Rattle.days.proofs.month_length.Statement.{statement}
 use Rattle.days.proofs.month_length.Tie as tie
 
-returns : tie.Need-returns
-unfolding monthLength
-returns c =
-    let y = c .before .args .y in
-    ⊎-elim (λ e. sym (ap (monthLength y) e))
-    (⊎-elim (λ e. sym (ap (monthLength y) e))
-    (⊎-elim (λ e. sym (ap (monthLength y) e)) (λ e. sym (ap (monthLength y) e))))
-    (c .match .keys1)
+add-long : tie.Need-add-long
+add-long c = search needs
 
-returns-2 : tie.Need-returns-2
-unfolding monthLength
-returns-2 c = rw (c .before .match .keys2, leap-fourth _ (c .before .before .pre .0) (c .before .before .pre .1), eq-eqb _ 0 (c .if1 .taken))
+add-february : tie.Need-add-february
+add-february c = search needs
 
-returns-3 : tie.Need-returns-3
-unfolding monthLength
-returns-3 c = rw (c .before .match .keys2, leap-fourth _ (c .before .before .pre .0) (c .before .before .pre .1), ne-eqb _ 0 (c .if1 .left))
+add-result : tie.Need-add-result
+add-result c = search needs
 
-returns-4 : tie.Need-returns-4
-returns-4 c =
+leap-day-requires : tie.Need-leap-day-requires
+leap-day-requires c κs = search needs
+
+sub-result : tie.Need-sub-result
+sub-result c = omega (arith, c .leap-day .ensures, leap-fourth (c .before .args .y) (c .before .pre .0) (c .before .pre .1))
+
+at-most-two : (c : tie.After-leap-day) → lacking (c .before .args .m) (c .leap-day .result) ≤ 2
+at-most-two c =
     let p = c .before .pre in
-    let r = c .match .rest in
-    length-31 _ _ (p .0) (p .1) (p .2) (p .3)
-    (λ e. r .0 .1 (inl e))
-    (λ e. r .0 .1 (inr (inl e)))
-    (λ e. r .0 .1 (inr (inr (inl e))))
-    (λ e. r .0 .1 (inr (inr (inr e))))
-    (r .1)
+    subst⁻¹ (λ (leap : ℕ). lacking (c .before .args .m) leap ≤ 2) (c .leap-day .ensures) (lacking-le _ _ (p .0) (p .1) (p .2) (p .3))
+
+mul-result : tie.Need-mul-result
+mul-result c = record { fits = omega (arith, at-most-two c) }
+
+sub-result-2 : tie.Need-sub-result-2
+sub-result-2 c = omega (arith, at-most-two c)
+
+returns : tie.Need-returns
+returns c = let p = c .before .pre in rw (c .leap-day .ensures, by-formula _ _ (p .0) (p .1) (p .2) (p .3))
 
 pub month-length-spec : {M : Type 1} → statement M
-month-length-spec = tie.close (tie.spec returns returns-2 returns-3 returns-4)
+month-length-spec =
+    tie.close
+    (tie.spec
+    add-long
+    add-february
+    add-result
+    leap-day-requires
+    sub-result
+    mul-result
+    sub-result-2
+    returns)
