@@ -54,8 +54,8 @@
 
 #define CLAIM_TRACKER_VERSION_MAJOR 1
 #define CLAIM_TRACKER_VERSION_MINOR 3
-#define CLAIM_TRACKER_VERSION_PATCH 0
-#define CLAIM_TRACKER_VERSION "1.3.0"
+#define CLAIM_TRACKER_VERSION_PATCH 1
+#define CLAIM_TRACKER_VERSION "1.3.1"
 
 /* Every function answers a number that a caller has to look at, and takes no null pointer; compilers that can, watch over both. */
 #if defined(__GNUC__)

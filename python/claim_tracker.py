@@ -14,7 +14,7 @@ from dataclasses import dataclass
 from enum import IntEnum
 from typing import NamedTuple
 
-__version__ = "1.3.0"
+__version__ = "1.3.1"
 
 ACCOUNTS = 16
 SECURITIES = 16

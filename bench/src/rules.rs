@@ -1,4 +1,4 @@
-//! The rules of document 01, with cards 1 to 3 of document 02, in Rust: opening, transfer, close and a run of records.
+//! The rules of document 01, with cards 1 to 4 of document 02, in Rust: opening, transfer, close and a run of records.
 mod book;
 mod claims;
 mod days;

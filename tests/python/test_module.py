@@ -1,5 +1,6 @@
 """The Python module over an installed library: against a C caller on the same calls, against the reference's streams, and its refusals."""
 import builtins
+import datetime
 import os
 import random
 import shutil
@@ -9,6 +10,7 @@ import sys
 import tempfile
 import unittest
 from array import array
+from calendar import monthrange
 
 HERE = os.path.dirname(os.path.abspath(__file__))
 sys.path[:0] = [os.path.join(os.path.dirname(HERE), "c"), os.path.join(os.path.dirname(HERE), "claimrun")]
@@ -211,6 +213,37 @@ class Calls(unittest.TestCase):
             if ended:
                 return found
             held, at, ended = held + stream.data[at:at + 1000], at + 1000, at >= len(stream.data)
+
+
+class Dates(unittest.TestCase):
+    """Month lengths and dates against those of Python's own calendar."""
+    MONTHS = [(year, month) for year in range(2000, 2040) for month in range(1, 13)]
+
+    def setUp(self):
+        self.tables, self.balances = array("I", [0]) * claim_tracker.TABLE_WORDS, claim_tracker.new_balances()
+
+    def number(self, words, day):
+        """What opening a book without securities answers."""
+        return claim_tracker.open(words, self.tables, self.balances, day).number
+
+    def test_every_month(self):
+        """A bit for the last day of a month is sound, one for the day behind it is not."""
+        for place, month in enumerate(self.MONTHS):
+            last = monthrange(*month)[1]
+            for day, number in ((last, Number.BAD_BOOK), (last + 1, Number.BAD_CALENDAR)):
+                words = array("I", [0]) * claim_tracker.CALENDAR_WORDS
+                words[place] = 1 << day - 1
+                with self.subTest(month=month, day=day):
+                    self.assertEqual(self.number(words, 20000101), number)
+
+    def test_every_date(self):
+        """Where every day is open, the numbers that a book may be opened on are all dates but the last, which has no day after it."""
+        words = array("I", [(1 << monthrange(*month)[1]) - 1 for month in self.MONTHS])
+        numbers = (10000 * year + 100 * month + day for year in range(1999, 2041) for month in range(100) for day in range(100))
+        found = {number for number in numbers if self.number(words, number) == Number.ACCEPTED}
+        first, last = datetime.date(2000, 1, 1), datetime.date(2039, 12, 31)
+        dates = [first + datetime.timedelta(days) for days in range((last - first).days)]
+        self.assertEqual(found, {10000 * date.year + 100 * date.month + date.day for date in dates})
 
 
 class Largest(unittest.TestCase):

@@ -8,7 +8,7 @@ import os
 import struct
 import sys
 
-CARDS = 3                       # how many of document 02's cards are in force
+CARDS = 4                       # how many of document 02's cards are in force
 OPEN, TRANSFER, CLOSE, TABLES, BOOK = range(5)
 MODULUS = 4294967291
 REPO_AT = 4096                  # the first word of repos

@@ -21,40 +21,33 @@ at-month f t y m hy ly hm lm =
     ∙ below-at (λ m. f (2000 + (y - 2000)) (1 + m)) 12
     (below-at (λ y. below (λ m. f (2000 + y) (1 + m)) 12) 40 t (y - 2000) (omega arith)) (m - 1) (omega arith)
 
--- ---- the code's arithmetic
-
--- 1 in the months of 31 days, 0 in the others
-abbrev pub long : ℕ → ℕ
-long m = (m + m / 8) % 2
-
--- 1 in February, 0 in the others
-abbrev pub february : ℕ → ℕ
-february m = (m + 9) % 12 / 11
-
--- how many of 30 days a month lacks
-abbrev pub lacking : ℕ → ℕ → ℕ
-lacking m leap = february m * (2 - leap)
-
 module _ (y m : ℕ) (hy : 2000 ≤ y) (ly : y < 2040) (hm : 1 ≤ m) (lm : m ≤ 12) where
-  -- each of the 480 months has the length that is written out for it
-  pub by-formula : 30 + long m - lacking m (leapDay y) ≡ monthLength y m
-  unfolding monthLength leapDay months below
-  by-formula = eqb-true _ _ (at-month (λ y m. eqb (30 + long m - lacking m (leapDay y)) (monthLength y m)) refl y m hy ly hm lm)
-
-  pub lacking-le : lacking m (leapDay y) ≤ 2
-  unfolding leapDay months below
-  lacking-le = leb-true _ _ (at-month (λ y m. leb (lacking m (leapDay y)) 2) refl y m hy ly hm lm)
-
   pub length-le : monthLength y m ≤ 31
   unfolding monthLength leapDay months below
   length-le = leb-true _ _ (at-month (λ y m. leb (monthLength y m) 31) refl y m hy ly hm lm)
+
+  pub length-ge : 28 ≤ monthLength y m
+  unfolding monthLength leapDay months below
+  length-ge = leb-true _ _ (at-month (λ y m. leb 28 (monthLength y m)) refl y m hy ly hm lm)
+
+-- the month of a word
+pub word-length-le : (m : ℕ) → m < 480 → lengthOf m ≤ 31
+unfolding lengthOf
+word-length-le m h = length-le (2000 + m / 12) (m % 12 + 1) (omega arith) (omega arith) (omega arith) (omega arith)
+
+-- ---- the code's arithmetic
 
 -- in these years every fourth has the leap day
 pub leap-fourth : (y : ℕ) → 2000 ≤ y → y < 2040 → (4 - y % 4) / 4 ≡ leapDay y
 unfolding leapDay months below
 leap-fourth y hy ly = eqb-true _ _ (at-month (λ y m. eqb ((4 - y % 4) / 4) (leapDay y)) refl y 1 hy ly (lit≤ tt) (lit≤ tt))
 
--- the month of a word
-pub word-length-le : (m : ℕ) → m < 480 → lengthOf m ≤ 31
-unfolding lengthOf
-word-length-le m h = length-le (2000 + m / 12) (m % 12 + 1) (omega arith) (omega arith) (omega arith) (omega arith)
+-- the length from the leap day and the month's number
+abbrev pub formula : ℕ → ℕ → ℕ
+formula leap m = 30 + (m + m / 8) % 2 - (m + 9) % 12 / 11 * (2 - leap)
+
+-- for each of the 480 months it is the length that is written out
+pub by-formula : (y m leap : ℕ) → leap ≡ leapDay y → 2000 ≤ y → y < 2040 → 1 ≤ m → m ≤ 12 → formula leap m ≡ monthLength y m
+unfolding monthLength leapDay months below
+by-formula y m leap e hy ly hm lm =
+    rw e (eqb-true _ _ (at-month (λ y m. eqb (formula (leapDay y) m) (monthLength y m)) refl y m hy ly hm lm))

@@ -47,6 +47,10 @@ impl Date {
         if d < 1 {
             return Checked::Not;
         }
+        // Every month has 28 days.
+        if d <= 28 {
+            return Checked::Is(Date(n));
+        }
         if month_length(n / 10000, m) < d {
             return Checked::Not;
         }
@@ -54,7 +58,7 @@ impl Date {
     }
 }
 
-// The leap day of year y, 1 or 0. In these years every fourth has one: 4 - y % 4 is 4 there, and less elsewhere.
+// The leap day of year y, 1 or 0. Every fourth year has one, 2000 too, the only hundred here: 4 - y % 4 is 4 then, and less in the others.
 fn leap_day(y: u32) -> u32
     requires { ⌜ (2000 ≤ y) × (y < 2040) ⌝ }
     ensures { λ r. ⌜ r ≡ leapDay y ⌝ }
@@ -62,8 +66,9 @@ fn leap_day(y: u32) -> u32
     (4 - y % 4) / 4
 }
 
-// The length of month m of year y. A long month has 31 days: up to July the odd ones are long, and from August on, where m / 8 is 1, the
-// even ones. Counted from March as 0, February is month 11, the last. It lacks two days of 30, one where there is a leap day.
+// The length of month m of year y: 30 days, one more in a long month, two less in February, or one less with the leap day.
+// Long are the odd months up to July and, since m / 8 is 1 from August on, the even ones from then on.
+// Counted from March, which is 0, February is 11 and no month is more, so that dividing by 11 leaves 1 there and 0 elsewhere.
 pub fn month_length(y: u32, m: u32) -> u32
     requires { ⌜ (2000 ≤ y) × (y < 2040) × (1 ≤ m) × (m ≤ 12) ⌝ }
     ensures { λ r. ⌜ r ≡ monthLength y m ⌝ }

@@ -1,9 +1,10 @@
 -- The arithmetic gives the length that the definition has written out.
-use mathlib.Core.Path.{subst⁻¹}
-use Prim.Native.Nat.{ℕ, _≤_}
+use Prim.Native.Nat.{ℕ, _*_, _≤_}
+use native.Mathlib.Nat.{le-trans, lt-of-le-of-lt, mul-le-mul}
 use native.Mathlib.Omega.{arith}
-use Rattle.days.proofs.Lengths.{lacking, lacking-le, leap-fourth, by-formula}
+use lib.Dec.{lit<}
 use borrow.Author.Needs.{needs}
+use Rattle.days.proofs.Lengths.{leap-fourth, by-formula}
 use Rattle.days.proofs.month_length.Statement.{statement}
 use Rattle.days.proofs.month_length.Tie as tie
 
@@ -20,21 +21,20 @@ leap-day-requires : tie.Need-leap-day-requires
 leap-day-requires c κs = search needs
 
 sub-result : tie.Need-sub-result
-sub-result c = omega (arith, c .leap-day .ensures, leap-fourth (c .before .args .y) (c .before .pre .0) (c .before .pre .1))
+sub-result c = let p = c .before .pre in omega (arith, c .leap-day .ensures, leap-fourth _ (p .0) (p .1))
 
-at-most-two : (c : tie.After-leap-day) → lacking (c .before .args .m) (c .leap-day .result) ≤ 2
-at-most-two c =
-    let p = c .before .pre in
-    subst⁻¹ (λ (leap : ℕ). lacking (c .before .args .m) leap ≤ 2) (c .leap-day .ensures) (lacking-le _ _ (p .0) (p .1) (p .2) (p .3))
+-- what is taken off is at most two days
+product-le : (a b : ℕ) → a ≤ 1 → b ≤ 2 → a * b ≤ 2
+product-le a b h l = mul-le-mul h l
 
 mul-result : tie.Need-mul-result
-mul-result c = record { fits = omega (arith, at-most-two c) }
+mul-result c = record { fits = lt-of-le-of-lt (product-le _ _ (omega arith) (omega arith)) (lit< tt) }
 
 sub-result-2 : tie.Need-sub-result-2
-sub-result-2 c = omega (arith, at-most-two c)
+sub-result-2 c = le-trans (product-le _ _ (omega arith) (omega arith)) (omega arith)
 
 returns : tie.Need-returns
-returns c = let p = c .before .pre in rw (c .leap-day .ensures, by-formula _ _ (p .0) (p .1) (p .2) (p .3))
+returns c = let p = c .before .pre in omega (arith, by-formula _ _ _ (c .leap-day .ensures) (p .0) (p .1) (p .2) (p .3))
 
 pub month-length-spec : {M : Type 1} → statement M
 month-length-spec =

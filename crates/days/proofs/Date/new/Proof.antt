@@ -1,8 +1,10 @@
 -- Each test of the code is the next test of the definition.
-use mathlib.Core.Path.{subst}
+use mathlib.Core.Path.{_≡_, subst}
 use Prim.Native.Nat.{ℕ, _/_, _%_, _<_, _≤_}
 use borrow.Author.Tests.{le-leb, lt-leb}
 use Rattle.days.specs.Days.{checked, isDate, monthLength}
+use Rattle.days.specs.declared.Checked.the-variants.{Is, Not}
+use Rattle.days.proofs.Lengths.{length-ge}
 use borrow.Author.Needs.{needs}
 use native.Mathlib.Omega.{arith}
 use Rattle.days.proofs.Date.new.Statement.{statement}
@@ -38,20 +40,36 @@ returns-5 c =
     let n = c .before .before .before .before .before .before .before .args .n in
     simp (le-leb 20000101 n (omega arith), le-leb n 20391231 (omega arith), le-leb 1 (n / 100 % 100) (omega arith), le-leb (n / 100 % 100) 12 (omega arith), lt-leb 1 (n % 100) (omega arith))
 
+-- where the tests before hold, the month's length decides
+module _ (n : ℕ) (h : 20000101 ≤ n) (l : n ≤ 20391231) (hm : 1 ≤ n / 100 % 100) (lm : n / 100 % 100 ≤ 12) (hd : 1 ≤ n % 100) where
+  has-day : n % 100 ≤ monthLength (n / 10000) (n / 100 % 100) → Is (record { 0 = n }) ≡ checked n
+  unfolding checked isDate
+  has-day e = simp (le-leb _ _ h, le-leb _ _ l, le-leb _ _ hm, le-leb _ _ lm, le-leb _ _ hd, le-leb _ _ e)
+
+  lacks-day : monthLength (n / 10000) (n / 100 % 100) < n % 100 → Not ≡ checked n
+  unfolding checked isDate
+  lacks-day e = simp (le-leb _ _ h, le-leb _ _ l, le-leb _ _ hm, le-leb _ _ lm, le-leb _ _ hd, lt-leb _ _ e)
+
+returns-6 : tie.Need-returns-6
+returns-6 c =
+    let n = c .before .before .before .before .before .before .before .before .args .n in
+    let g = length-ge (n / 10000) (n / 100 % 100) (omega arith) (omega arith) (omega arith) (omega arith) in
+    has-day n (omega arith) (omega arith) (omega arith) (omega arith) (omega arith) (omega arith)
+
 month-length-requires : tie.Need-month-length-requires
 month-length-requires c κs = search needs
 
-returns-6 : tie.Need-returns-6
-unfolding checked isDate
-returns-6 c =
-    let n = c .before .before .before .before .before .before .before .before .before .args .n in
-    simp (le-leb 20000101 n (omega arith), le-leb n 20391231 (omega arith), le-leb 1 (n / 100 % 100) (omega arith), le-leb (n / 100 % 100) 12 (omega arith), le-leb 1 (n % 100) (omega arith), lt-leb (n % 100) (monthLength (n / 10000) (n / 100 % 100)) (subst (λ (l : ℕ). l < n % 100) (c .before .month-length .ensures) (c .if6 .taken)))
-
 returns-7 : tie.Need-returns-7
-unfolding checked isDate
 returns-7 c =
-    let n = c .before .before .before .before .before .before .before .before .before .args .n in
-    simp (le-leb 20000101 n (omega arith), le-leb n 20391231 (omega arith), le-leb 1 (n / 100 % 100) (omega arith), le-leb (n / 100 % 100) 12 (omega arith), le-leb 1 (n % 100) (omega arith), le-leb (n % 100) (monthLength (n / 10000) (n / 100 % 100)) (subst (λ (l : ℕ). n % 100 ≤ l) (c .before .month-length .ensures) (c .if6 .left)))
+    let n = c .before .before .before .before .before .before .before .before .before .before .args .n in
+    lacks-day n (omega arith) (omega arith) (omega arith) (omega arith) (omega arith)
+    (subst (λ (l : ℕ). l < n % 100) (c .before .month-length .ensures) (c .if7 .taken))
+
+returns-8 : tie.Need-returns-8
+returns-8 c =
+    let n = c .before .before .before .before .before .before .before .before .before .before .args .n in
+    has-day n (omega arith) (omega arith) (omega arith) (omega arith) (omega arith)
+    (subst (λ (l : ℕ). n % 100 ≤ l) (c .before .month-length .ensures) (c .if7 .left))
 
 pub new-spec : {M : Type 1} → statement M
 new-spec =
@@ -62,6 +80,7 @@ new-spec =
     returns-3
     returns-4
     returns-5
-    month-length-requires
     returns-6
-    returns-7)
+    month-length-requires
+    returns-7
+    returns-8)
