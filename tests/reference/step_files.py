@@ -8,7 +8,7 @@ import os
 import struct
 import sys
 
-CARDS = 4                       # how many of document 02's cards are in force
+CARDS = 3                       # the last of document 02's cards in force that changes an answer
 OPEN, TRANSFER, CLOSE, TABLES, BOOK = range(5)
 MODULUS = 4294967291
 REPO_AT = 4096                  # the first word of repos
