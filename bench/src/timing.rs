@@ -109,19 +109,22 @@ type Call = fn(&[u32], &[u32], Book, &mut [u64], &[u8], &mut [u8]) -> Done;
 
 /// Times a call by value on a full book, with each message in turn.
 fn time_call(name: &str, day: u32, library: Call, rust: Call, messages: &[Vec<u8>]) -> Result<(), String> {
+    time_answer(name, &full_book(day), 0, library, rust, messages)
+}
+
+/// Times a call by value that has one answer for each message in turn.
+fn time_answer(name: &str, world: &World, number: u16, library: Call, rust: Call, messages: &[Vec<u8>]) -> Result<(), String> {
     const CALLS: usize = 1000;
-    let world = full_book(day);
     let run = |call: Call| {
-        let mut balances = world.balances.clone();
+        let World { calendar, tables, mut balances, mut book } = world.clone();
         let mut claims = vec![0; CLAIM_ROOM];
-        let mut book = world.book;
-        let World { calendar, tables, .. } = world.clone();
+        let day = book.day;
         move |messages: &[Vec<u8>]| {
             let mut written = 0;
             for message in messages.iter().cycle().take(CALLS) {
                 let given = black_box(Book { day, ..book });
                 let done = call(&calendar, &tables, given, &mut balances, message, &mut claims);
-                assert!(done.number == 0, "number {}", done.number);
+                assert!(done.number == number, "number {}", done.number);
                 book = done.book;
                 written += done.claims;
             }
@@ -266,6 +269,9 @@ pub fn run(claimrun: Option<PathBuf>) -> Result<(), String> {
     let loans: Vec<_> =
         loans.into_iter().map(|(number, code, parties)| transfer_message(parties, number, code, 100, "")).collect();
     time_call("transfer, a loan", 20220801, tracker::transfer, rules::transfer, &loans)?;
+    let mut unsound = full_book(20220801);
+    unsound.calendar[479] |= 1 << 31;
+    time_answer("transfer, calendar refused", &unsound, 2, tracker::transfer, rules::transfer, &loans)?;
     let close = [vec![2, 0, 2, 0]];
     time_call("close that crosses nothing", 20220822, tracker::close, rules::close, &close)?;
     time_call("close that crosses 1 row", 20220801, tracker::close, rules::close, &close)?;

@@ -43,7 +43,7 @@ unfolding leapDay months below
 leap-fourth y hy ly = eqb-true _ _ (at-month (λ y m. eqb ((4 - y % 4) / 4) (leapDay y)) refl y 1 hy ly (lit≤ tt) (lit≤ tt))
 
 -- the length from the leap day and the month's number
-abbrev pub formula : ℕ → ℕ → ℕ
+abbrev formula : ℕ → ℕ → ℕ
 formula leap m = 30 + (m + m / 8) % 2 - (m + 9) % 12 / 11 * (2 - leap)
 
 -- for each of the 480 months it is the length that is written out

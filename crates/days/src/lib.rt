@@ -66,9 +66,9 @@ fn leap_day(y: u32) -> u32
     (4 - y % 4) / 4
 }
 
-// The length of month m of year y: 30 days, one more in a long month, two less in February, or one less with the leap day.
-// Long are the odd months up to July and, since m / 8 is 1 from August on, the even ones from then on.
-// Counted from March, which is 0, February is 11 and no month is more, so that dividing by 11 leaves 1 there and 0 elsewhere.
+// The length of month m of year y: 30 days, one more in a long month, two less in February, or one less where it has the leap day.
+// Long are the odd months up to July and the even ones from August on, since from there on m / 8 is 1.
+// Counted from March as 0, February is 11, the last, so dividing by 11 gives 1 for February and 0 for every other month.
 pub fn month_length(y: u32, m: u32) -> u32
     requires { ⌜ (2000 ≤ y) × (y < 2040) × (1 ≤ m) × (m ≤ 12) ⌝ }
     ensures { λ r. ⌜ r ≡ monthLength y m ⌝ }
