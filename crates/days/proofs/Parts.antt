@@ -37,6 +37,12 @@ parts n e =
     let l = length-le (yearOf n) (monthOf n) (omega arith) (omega arith) c d in
     record { from = a; to = b; month-from = c; month-to = d; day-from = f; day-to = g; day-31 = omega arith }
 
+-- a number of these years with a month and a day above 0 is a date if its month has the day
+pub date-by-length : (n : ℕ) → firstDate ≤ n → n ≤ lastDate → 1 ≤ monthOf n → monthOf n ≤ 12 → 1 ≤ dayOf n
+    → isDate n ≡ leb (dayOf n) (monthLength (yearOf n) (monthOf n))
+unfolding isDate
+date-by-length n h l hm lm hd = simp (le-leb _ _ h, le-leb _ _ l, le-leb _ _ hm, le-leb _ _ lm, le-leb _ _ hd)
+
 -- ---- a date is its word and its day
 
 pub word-lt : (n : ℕ) → isDate n ≡ true → wordOf n < 480
@@ -49,7 +55,7 @@ date-parts n e = let p = parts n e in omega arith
 
 -- a day that its month has is a date
 pub date-made : (m d : ℕ) → m < 480 → d < lengthOf m → isDate (dateOf m d) ≡ true
-unfolding isDate dateOf lengthOf
+unfolding dateOf lengthOf
 date-made m d h l =
     let y = 2000 + m / 12 in
     let k = m % 12 + 1 in
@@ -61,7 +67,7 @@ date-made m d h l =
     let e1 : n / 10000 ≡ y = omega arith in
     let e2 : n / 100 % 100 ≡ k = omega arith in
     let e3 : n % 100 ≡ suc d = omega arith in
-    rw (le-leb 20000101 n (omega arith), le-leb n 20391231 (omega arith), e1, e2, e3, le-leb 1 k (omega arith), le-leb k 12 (omega arith), le-leb 1 (suc d) (omega arith), le-leb (suc d) (monthLength y k) l)
+    rw (date-by-length n (omega arith) (omega arith) (omega arith) (omega arith) (omega arith), e1, e2, e3, le-leb (suc d) (monthLength y k) l)
 
 -- and its parts are that word and that day
 pub made-word : (m d : ℕ) → d < 32 → wordOf (dateOf m d) ≡ m

@@ -5,6 +5,7 @@ use borrow.Author.Tests.{le-leb, lt-leb}
 use Rattle.days.specs.Days.{checked, isDate, monthLength}
 use Rattle.days.specs.declared.Checked.the-variants.{Is, Not}
 use Rattle.days.proofs.Lengths.{length-ge}
+use Rattle.days.proofs.Parts.{date-by-length}
 use borrow.Author.Needs.{needs}
 use native.Mathlib.Omega.{arith}
 use Rattle.days.proofs.Date.new.Statement.{statement}
@@ -40,15 +41,15 @@ returns-5 c =
     let n = c .before .before .before .before .before .before .before .args .n in
     simp (le-leb 20000101 n (omega arith), le-leb n 20391231 (omega arith), le-leb 1 (n / 100 % 100) (omega arith), le-leb (n / 100 % 100) 12 (omega arith), lt-leb 1 (n % 100) (omega arith))
 
--- where the tests before hold, the month's length decides
+-- behind the tests before, the month's length decides
 module _ (n : ℕ) (h : 20000101 ≤ n) (l : n ≤ 20391231) (hm : 1 ≤ n / 100 % 100) (lm : n / 100 % 100 ≤ 12) (hd : 1 ≤ n % 100) where
   has-day : n % 100 ≤ monthLength (n / 10000) (n / 100 % 100) → Is (record { 0 = n }) ≡ checked n
-  unfolding checked isDate
-  has-day e = simp (le-leb _ _ h, le-leb _ _ l, le-leb _ _ hm, le-leb _ _ lm, le-leb _ _ hd, le-leb _ _ e)
+  unfolding checked
+  has-day e = simp (date-by-length n h l hm lm hd, le-leb _ _ e)
 
   lacks-day : monthLength (n / 10000) (n / 100 % 100) < n % 100 → Not ≡ checked n
-  unfolding checked isDate
-  lacks-day e = simp (le-leb _ _ h, le-leb _ _ l, le-leb _ _ hm, le-leb _ _ lm, le-leb _ _ hd, lt-leb _ _ e)
+  unfolding checked
+  lacks-day e = simp (date-by-length n h l hm lm hd, lt-leb _ _ e)
 
 returns-6 : tie.Need-returns-6
 returns-6 c =
