@@ -14,7 +14,7 @@ use Rattle.days.specs.Days.{badCalendar, isOpen, openAfter}
 use Rattle.days.proofs.OpenDays.{Kept}
 use Rattle.securities.specs.Securities.{goodTables}
 use Rattle.book.specs.Book.{Position, InRange, word, position, balanceAt}
-use Rattle.book.specs.Soundness.{wrongLength, badDay, goodBalance, goodBalancesFrom, badBalances, tableCauses, bookCauses, openingCauses}
+use Rattle.book.specs.Soundness.{wrongLength, badDay, goodBalance, goodBalancesFrom, badBalances, tableCauses, stateCauses, bookCauses, openingCauses}
 use Rattle.book.proofs.Words.{position-word, word-bound}
 
 -- ---- calendar and tables
@@ -109,7 +109,7 @@ pub record SoundBook (calendar tables : List ℕ) (day : ℕ) (balances : List �
   pub balances-sound : SoundBalances balances
 
 pub numbered-book : (calendar tables : List ℕ) (day : ℕ) (balances : List ℕ) → numbered (bookCauses calendar tables day balances) ≡ true
-unfolding numbered bookCauses tableCauses
+unfolding numbered bookCauses tableCauses stateCauses
 numbered-book calendar tables day balances = refl
 
 pub numbered-opening : (calendar tables balances : List ℕ) (day : ℕ) → numbered (openingCauses calendar tables balances day) ≡ true
@@ -118,7 +118,7 @@ numbered-opening calendar tables balances day = refl
 
 pub sound-book : (calendar tables : List ℕ) (day : ℕ) (balances : List ℕ) → NoneApplies (bookCauses calendar tables day balances)
     → SoundBook calendar tables day balances
-unfolding bookCauses tableCauses appliesAt
+unfolding bookCauses tableCauses stateCauses appliesAt
 sound-book calendar tables day balances n =
     let cs = bookCauses calendar tables day balances in
     let t = sound-tables calendar tables balances (cleared-by 1 cs n) (cleared-by 2 cs n) (cleared-by 3 cs n) in

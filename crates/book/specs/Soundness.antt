@@ -39,10 +39,13 @@ tableCauses calendar tables balances =
     ∷ cause 3 (not (goodTables calendar tables))
     ∷ []
 
+-- The book's day and balances: number 4.
+unfoldable pub stateCauses : List ℕ → ℕ → List ℕ → List Cause
+stateCauses calendar day balances = cause 4 (badDay calendar day || badBalances balances) ∷ []
+
 -- Numbers 1 to 4 of a transfer and a close; calendar, tables, book and balances are sound where none applies.
 unfoldable pub bookCauses : List ℕ → List ℕ → ℕ → List ℕ → List Cause
-bookCauses calendar tables day balances =
-    tableCauses calendar tables balances ++ (cause 4 (badDay calendar day || badBalances balances) ∷ [])
+bookCauses calendar tables day balances = tableCauses calendar tables balances ++ stateCauses calendar day balances
 
 -- Opening can meet only 1 to 4, and for 4 only the day's causes.
 unfoldable pub openingCauses : List ℕ → List ℕ → List ℕ → ℕ → List Cause

@@ -14,7 +14,7 @@ use Rattle.claims.specs.Close.{closeClaims}
 use Rattle.claims.specs.Turns.{small, SoundClose}
 use Rattle.book.specs.declared.Book.{Book}
 use Rattle.book.specs.Book.{position}
-use Rattle.book.specs.Soundness.{badDay, goodBalance, goodBalancesFrom, badBalances, bookCauses, tableCauses}
+use Rattle.book.specs.Soundness.{badDay, goodBalance, goodBalancesFrom, badBalances, tableCauses, stateCauses, bookCauses}
 use Rattle.book.proofs.Judged.{SoundBook, numbered-book}
 use Rattle.history.specs.Calls.{Arguments, close, claimsOf}
 use Rattle.history.specs.Causes.{recordCauses, lastDayCauses, roomCauses, callCauses}
@@ -65,7 +65,7 @@ small-from w (par ∷ pars) e =
 
 pub small-balances : (calendar tables : List ℕ) (day : ℕ) (balances : List ℕ) → firstOf (bookCauses calendar tables day balances) ≡ 0
     → all small balances ≡ true
-unfolding bookCauses tableCauses badBalances appliesAt
+unfolding bookCauses tableCauses stateCauses badBalances appliesAt
 small-balances calendar tables day balances z =
     let cs = bookCauses calendar tables day balances in
     small-from 0 balances

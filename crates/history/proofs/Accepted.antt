@@ -15,17 +15,17 @@ use Rattle.tags.specs.ContractDateTag.{editCauses}
 use Rattle.book.specs.declared.Book.{Book}
 use Rattle.book.specs.Book.{InRange}
 use Rattle.book.specs.Loans.{stepOf, Change, unchanged, increase, decrease, increasing, decreasing, bySender, byReceiver, changeOf, aboveBalance, loanCauses}
-use Rattle.book.specs.Soundness.{tableCauses, bookCauses, openingCauses}
+use Rattle.book.specs.Soundness.{tableCauses, stateCauses, bookCauses, openingCauses}
 use Rattle.book.proofs.Posted.{tracking-range}
 use Rattle.book.proofs.Judged.{SoundBook, sound-book, SoundOpening, sound-opening, numbered-opening}
-use Rattle.history.specs.Calls.{Arguments, Call, transfer, close, claimsOf}
-use Rattle.history.specs.Causes.{recordCauses, outOfRange, fieldCauses, countCauses, lastDayCauses, roomCauses, transferCauses, callCauses, causes, numberFor, openingNumber}
+use Rattle.history.specs.Calls.{Arguments, TransferArguments, Call, transfer, close, claimsOf}
+use Rattle.history.specs.Causes.{recordCauses, outOfRange, fieldCauses, countCauses, lastDayCauses, roomCauses, transferCauses, callCauses, soundCauses, causes, numberFor, openingNumber}
 
 -- ---- the tables' numbers
 
 pub numbered-causes : (calendar tables : List ℕ) (book : Book) (balances : List ℕ) (call : Call)
     → numbered (causes calendar tables book balances call) ≡ true
-unfolding numbered causes callCauses transferCauses bookCauses tableCauses recordCauses fieldCauses editCauses countCauses loanCauses lastDayCauses roomCauses
+unfolding numbered causes callCauses transferCauses soundCauses bookCauses tableCauses stateCauses recordCauses fieldCauses editCauses countCauses loanCauses lastDayCauses roomCauses
 numbered-causes calendar tables book balances (transfer a) = refl
 numbered-causes calendar tables book balances (close a) = refl
 
@@ -39,6 +39,13 @@ accepted-iff calendar tables book balances call =
 none-of : (calendar tables : List ℕ) (book : Book) (balances : List ℕ) (call : Call)
     → numberFor calendar tables book balances call ≡ 0 → NoneApplies (causes calendar tables book balances call)
 none-of calendar tables book balances call e = accepted-iff calendar tables book balances call .0 e
+
+-- where none of the causes before 5 applies, numbers 1 to 4 do not
+pub sound-book-call : (calendar tables : List ℕ) (day : ℕ) (balances : List ℕ) (call : Call)
+    → NoneApplies (soundCauses calendar tables day balances call) → NoneApplies (bookCauses calendar tables day balances)
+unfolding soundCauses bookCauses tableCauses stateCauses
+sound-book-call calendar tables day balances (transfer a) n = n
+sound-book-call calendar tables day balances (close a) n = n
 
 -- ---- the fields of an accepted transfer
 
@@ -79,7 +86,15 @@ in-change t f = go (increasing (stepOf (t .code))) (decreasing (stepOf (t .code)
 
 -- ---- accepted calls
 
-pub record Taken (calendar tables : List ℕ) (book : Book) (balances : List ℕ) (a : Arguments) : Type 0 where
+sound-before : (calendar tables : List ℕ) (book : Book) (balances : List ℕ) (call : Call)
+    → NoneApplies (causes calendar tables book balances call) → SoundBook calendar tables (book .day) balances
+unfolding causes
+sound-before calendar tables book balances call k =
+    sound-book calendar tables (book .day) balances
+    (sound-book-call calendar tables (book .day) balances call
+    (none-left (soundCauses calendar tables (book .day) balances call) (callCauses calendar tables book balances call) k))
+
+pub record Taken (calendar tables : List ℕ) (book : Book) (balances : List ℕ) (a : TransferArguments) : Type 0 where
   pub sound : SoundBook calendar tables (book .day) balances
   pub whole : reads transferKind (a .message) ≡ true
   pub fields : Fields (transferOf (a .message))
@@ -88,15 +103,15 @@ pub record Taken (calendar tables : List ℕ) (book : Book) (balances : List ℕ
   pub enough : aboveBalance balances (changeOf (transferOf (a .message))) (transferOf (a .message) .par) ≡ false
   pub fits : 35 * length (claimsOf calendar tables book balances (transfer a)) ≤ length (a .buffer)
 
-pub taken : (calendar tables : List ℕ) (book : Book) (balances : List ℕ) (a : Arguments)
+pub taken : (calendar tables : List ℕ) (book : Book) (balances : List ℕ) (a : TransferArguments)
     → numberFor calendar tables book balances (transfer a) ≡ 0 → Taken calendar tables book balances a
-unfolding causes callCauses transferCauses bookCauses tableCauses recordCauses fieldCauses editCauses countCauses loanCauses roomCauses appliesAt
+unfolding causes callCauses transferCauses soundCauses bookCauses tableCauses stateCauses recordCauses fieldCauses editCauses countCauses loanCauses roomCauses appliesAt
 taken calendar tables book balances a e =
     let cs = causes calendar tables book balances (transfer a) in
     let k = none-of calendar tables book balances (transfer a) e in
     let f = fields tables (transferOf (a .message)) (cleared-by 6 cs k) in
     record {
-      sound = sound-book calendar tables (book .day) balances (none-left (bookCauses calendar tables (book .day) balances) (callCauses calendar tables book balances (transfer a)) k);
+      sound = sound-before calendar tables book balances (transfer a) k;
       whole = not-false _ (cleared-by 5 cs k);
       fields = f;
       within = in-change (transferOf (a .message)) f;
@@ -113,12 +128,12 @@ pub record Closed (calendar tables : List ℕ) (book : Book) (balances : List �
 
 pub closed : (calendar tables : List ℕ) (book : Book) (balances : List ℕ) (a : Arguments)
     → numberFor calendar tables book balances (close a) ≡ 0 → Closed calendar tables book balances a
-unfolding causes callCauses transferCauses bookCauses tableCauses recordCauses lastDayCauses roomCauses appliesAt
+unfolding causes callCauses transferCauses soundCauses bookCauses tableCauses stateCauses recordCauses lastDayCauses roomCauses appliesAt
 closed calendar tables book balances a e =
     let cs = causes calendar tables book balances (close a) in
     let k = none-of calendar tables book balances (close a) e in
     record {
-      sound = sound-book calendar tables (book .day) balances (none-left (bookCauses calendar tables (book .day) balances) (callCauses calendar tables book balances (close a)) k);
+      sound = sound-before calendar tables book balances (close a) k;
       whole = not-false _ (cleared-by 5 cs k);
       follows = eqb-false _ 0 (cleared-by 9 cs k);
       fits = ltb-false _ _ (cleared-by 10 cs k);

@@ -1,34 +1,40 @@
 -- What a call's code shows at each of its returns: a refused call and an accepted one, by the call's number, and that number from
 -- the causes that code has judged.
 use mathlib.Core.Path.{_≡_, refl, sym, ap, _∙_}
+use mathlib.Core.Bool.{true}
 use mathlib.Core.List.{List}
 use Prim.Native.Nat.{ℕ, zero, suc}
 use lib.ListN.{length, replicate}
-use Rattle.lists.specs.First.{firstOf, none-applies, hit-group, next-group}
+use Rattle.lists.specs.First.{firstOf, numbered, none-applies, hit-group, next-group}
 use Rattle.days.specs.Days.{firstDate}
 use Rattle.claims.specs.Written.{written}
 use Rattle.book.specs.declared.Book.{Book}
-use Rattle.book.specs.Soundness.{bookCauses, openingCauses}
+use Rattle.book.specs.Soundness.{openingCauses}
 use Rattle.book.proofs.Judged.{numbered-book}
-use Rattle.history.specs.Calls.{Call, bufferOf, claimsOf}
-use Rattle.history.specs.Causes.{callCauses, causes, numberFor, openingNumber}
+use Rattle.history.specs.Calls.{Call, transfer, close, bufferOf, claimsOf}
+use Rattle.history.specs.Causes.{callCauses, soundCauses, causes, numberFor, openingNumber}
 use Rattle.history.specs.Results.{nextBook, nextBalances, resultFor, left, result, leftOpen, openedFor, opened}
 
 module _ (calendar tables : List ℕ) (book : Book) (balances : List ℕ) (call : Call) where
   -- ---- the number
 
-  -- a number of the causes 1 to 4
-  pub book-refuses : (n : ℕ) → n ≡ firstOf (bookCauses calendar tables (book .day) balances) → (n ≡ 0 → ⊥) → n ≡ numberFor calendar tables book balances call
-  unfolding numberFor causes
-  book-refuses n e d = hit-group (bookCauses calendar tables (book .day) balances) (callCauses calendar tables book balances call) e d
+  numbered-sound : (c : Call) → numbered (soundCauses calendar tables (book .day) balances c) ≡ true
+  unfolding soundCauses
+  numbered-sound (transfer a) = numbered-book calendar tables (book .day) balances
+  numbered-sound (close a) = numbered-book calendar tables (book .day) balances
 
-  -- on a sound book the causes behind them decide
-  pub sound-number : (n : ℕ) → firstOf (bookCauses calendar tables (book .day) balances) ≡ 0
+  -- a number of the causes before 5
+  pub book-refuses : (n : ℕ) → n ≡ firstOf (soundCauses calendar tables (book .day) balances call) → (n ≡ 0 → ⊥) → n ≡ numberFor calendar tables book balances call
+  unfolding numberFor causes
+  book-refuses n e d = hit-group (soundCauses calendar tables (book .day) balances call) (callCauses calendar tables book balances call) e d
+
+  -- where none of them applies, the causes behind them decide
+  pub sound-number : (n : ℕ) → firstOf (soundCauses calendar tables (book .day) balances call) ≡ 0
       → n ≡ firstOf (callCauses calendar tables book balances call) → n ≡ numberFor calendar tables book balances call
   unfolding numberFor causes
   sound-number n z e =
-      e ∙ sym (next-group (bookCauses calendar tables (book .day) balances) (callCauses calendar tables book balances call)
-      (none-applies _ (numbered-book calendar tables (book .day) balances) z))
+      e ∙ sym (next-group (soundCauses calendar tables (book .day) balances call) (callCauses calendar tables book balances call)
+      (none-applies _ (numbered-sound call) z))
 
   -- ---- the answer
 

@@ -16,11 +16,11 @@ use Rattle.tags.specs.ContractDateTag.{editCauses}
 use Rattle.book.specs.declared.Book.{Book}
 use Rattle.book.specs.Loans.{loanCauses}
 use Rattle.book.specs.Book.{Position, position, largestBalance}
-use Rattle.book.specs.Soundness.{wrongLength, badDay, goodBalance, goodBalancesFrom, badBalances, tableCauses, bookCauses, openingCauses}
+use Rattle.book.specs.Soundness.{wrongLength, badDay, goodBalance, goodBalancesFrom, badBalances, tableCauses, stateCauses, bookCauses, openingCauses}
 use Rattle.book.proofs.Judged.{kept, numbered-book, numbered-opening}
 use Rattle.book.proofs.Posted.{posted-sound, posted-length}
-use Rattle.history.specs.Calls.{Arguments, Call, transfer, close, claimsOf}
-use Rattle.history.specs.Causes.{recordCauses, fieldCauses, countCauses, roomCauses, transferCauses, callCauses, causes, numberFor, openingNumber}
+use Rattle.history.specs.Calls.{TransferArguments, Call, transfer, close, claimsOf}
+use Rattle.history.specs.Causes.{recordCauses, fieldCauses, countCauses, roomCauses, transferCauses, callCauses, soundCauses, causes, numberFor, openingNumber}
 use Rattle.history.specs.Results.{nextBook, nextBalances, resultFor, result, openedFor, opened}
 use Rattle.history.proofs.Accepted.{taken, closed, accepted-iff}
 
@@ -28,7 +28,7 @@ use Rattle.history.proofs.Accepted.{taken, closed, accepted-iff}
 moved : (calendar tables before after : List ℕ) (next : ℕ) → firstOf (tableCauses calendar tables before) ≡ 0
     → length after ≡ length before → badDay calendar next ≡ false → badBalances after ≡ false
     → firstOf (bookCauses calendar tables next after) ≡ 0
-unfolding bookCauses tableCauses wrongLength numbered
+unfolding bookCauses tableCauses stateCauses wrongLength numbered
 moved calendar tables before after next z l d b =
     let n = none-applies (tableCauses calendar tables before) refl z in
     first-none (bookCauses calendar tables next after) (rw l (n .0), (n .1 .0, (n .1 .1 .0, (rw (d, b) refl, tt))))
@@ -45,19 +45,19 @@ module _ (calendar tables : List ℕ) (book : Book) (balances : List ℕ) (z : f
       first-none _ (none-left (tableCauses calendar tables balances) _ (none-applies _ (numbered-book calendar tables (book .day) balances) z))
 
   fourth : badDay calendar (book .day) || badBalances balances ≡ false
-  unfolding bookCauses tableCauses appliesAt
+  unfolding bookCauses tableCauses stateCauses appliesAt
   fourth = cleared 4 (bookCauses calendar tables (book .day) balances) (numbered-book calendar tables (book .day) balances) z
 
   balances-clear : badBalances balances ≡ false
   balances-clear = or-false-right (badDay calendar (book .day)) _ fourth
 
-  loans-clear : (a : Arguments) → numberFor calendar tables book balances (transfer a) ≡ 0 → firstOf (loanCauses balances (transferOf (a .message))) ≡ 0
+  loans-clear : (a : TransferArguments) → numberFor calendar tables book balances (transfer a) ≡ 0 → firstOf (loanCauses balances (transferOf (a .message))) ≡ 0
   unfolding causes callCauses transferCauses
   loans-clear a e =
       let t = transferOf (a .message) in
       let tag = messageTag (a .message) in
       let all = accepted-iff calendar tables book balances (transfer a) .0 e in
-      let own = none-right (recordCauses transferKind (a .message)) _ (none-right (bookCauses calendar tables (book .day) balances) _ all) in
+      let own = none-right (recordCauses transferKind (a .message)) _ (none-right (soundCauses calendar tables (book .day) balances (transfer a)) _ all) in
       let fields = none-left (transferCauses tables book balances t tag) (roomCauses (claimsOf calendar tables book balances (transfer a)) (a .buffer)) own in
       first-none _
       (none-right (countCauses (book .count)) _

@@ -4,7 +4,7 @@ use Prim.Native.Nat.{ℕ, _+_}
 use Rattle.records.specs.declared.Claim.{Claim}
 use Rattle.book.specs.declared.Book.{Book}
 use Rattle.records.specs.MessageRecords.{transferOf}
-use Rattle.claims.specs.Fails.{messageTag, transferClaims}
+use Rattle.claims.specs.Fails.{messageTag, maximumNumbers, transferClaims}
 use Rattle.claims.specs.Close.{closeClaims}
 
 -- A call's own arguments: its message, and its claim buffer as the call finds it.
@@ -12,9 +12,19 @@ pub record Arguments : Type 0 where
   pub message : List ℕ
   pub buffer : List ℕ
 
+-- Those of a transfer: also the date limits that it is lent.
+pub record TransferArguments : Type 0 where
+  pub message : List ℕ
+  pub buffer : List ℕ
+  pub limits : List ℕ
+
 pub data Call : Type 0 where
-  transfer : Arguments → Call
+  transfer : TransferArguments → Call
   close : Arguments → Call
+
+-- A transfer in the form without limits keeps the published numbers.
+abbrev pub publishedTransfer : Arguments → Call
+publishedTransfer a = transfer (record { message = a .message; buffer = a .buffer; limits = maximumNumbers })
 
 unfoldable pub bufferOf : Call → List ℕ
 bufferOf (transfer a) = a .buffer

@@ -72,9 +72,14 @@ callCauses calendar tables book balances (close a) =
     ++ (lastDayCauses calendar (book .day)
     ++ roomCauses (claimsOf calendar tables book balances (close a)) (a .buffer))
 
+-- Numbers 1 to 4: what the call is lent is sound where none applies.
+unfoldable pub soundCauses : List ℕ → List ℕ → ℕ → List ℕ → Call → List Cause
+soundCauses calendar tables day balances (transfer a) = bookCauses calendar tables day balances
+soundCauses calendar tables day balances (close a) = bookCauses calendar tables day balances
+
 unfoldable pub causes : List ℕ → List ℕ → Book → List ℕ → Call → List Cause
 causes calendar tables book balances call =
-    bookCauses calendar tables (book .day) balances ++ callCauses calendar tables book balances call
+    soundCauses calendar tables (book .day) balances call ++ callCauses calendar tables book balances call
 
 -- The number of a call: that of its first cause that applies, 0 if none does.
 unfoldable pub numberFor : List ℕ → List ℕ → Book → List ℕ → Call → ℕ

@@ -6,7 +6,7 @@ ghost use lib.ListN.{length};
 ghost use Rattle.lists.specs.First.{firstOf};
 ghost use Rattle.lists.specs.Sums.{sum};
 ghost use Rattle.book.specs.Book.{position};
-ghost use Rattle.book.specs.Soundness.{badDay, goodBalance, badBalances, tableCauses, bookCauses, openingCauses};
+ghost use Rattle.book.specs.Soundness.{badDay, goodBalance, badBalances, tableCauses, stateCauses, bookCauses, openingCauses};
 ghost use Rattle.judging.specs.Quick.{excessOf, ownPars};
 use days::Day;
 
@@ -125,6 +125,20 @@ fn bad_balances(balances: &[u64]) -> bool
     judge_balances(balances)
 }
 
+// The number 4 where a book's day or its balances meet it, else 0.
+fn state_number(calendar: &[u32], day: u32, balances: &[u64]) -> u16
+    requires { ⌜ (length (now calendar) ≡ 480) × (length (now balances) ≡ 8192) ⌝ }
+    ensures { λ r. ⌜ r ≡ firstOf (stateCauses (now (calendar .entry)) day (now (balances .entry))) ⌝ }
+{
+    if bad_day(calendar, day) {
+        return 4;
+    }
+    if bad_balances(balances) {
+        return 4;
+    }
+    0
+}
+
 // The first of the numbers 1 to 4 that a transfer or a close meets, 0 where it meets none.
 pub fn book_number(calendar: &[u32], tables: &[u32], day: u32, balances: &[u64]) -> u16
     ensures { λ r. ⌜ r ≡ firstOf (bookCauses (now (calendar .entry)) (now (tables .entry)) day (now (balances .entry))) ⌝ }
@@ -133,13 +147,7 @@ pub fn book_number(calendar: &[u32], tables: &[u32], day: u32, balances: &[u64])
     if number != 0 {
         return number;
     }
-    if bad_day(calendar, day) {
-        return 4;
-    }
-    if bad_balances(balances) {
-        return 4;
-    }
-    0
+    state_number(calendar, day, balances)
 }
 
 // The first of the numbers 1 to 4 that an opening meets, 0 where it meets none; what the balances hold does not matter.

@@ -1,5 +1,5 @@
 // By-value callers of the second form: each keeps a book of its own, lends it to the call, and returns it as the call leaves it.
-ghost use Rattle.history.specs.Calls.{Call};
+ghost use Rattle.history.specs.Calls.{Call, publishedTransfer};
 ghost use Rattle.tracker.specs.Forms.{Gives};
 use book::Book;
 use book::Done;
@@ -13,7 +13,7 @@ pub fn transfer_lent(
     message: &[u8],
     claims: &mut [u8],
 ) -> Done
-    ensures { λ r. ⌜ Gives (now (calendar .entry)) (now (tables .entry)) book (now (balances .entry)) (Call.transfer (record { message = now (message .entry); buffer = now (claims .entry) })) r (now (claims .exit)) (now (balances .exit)) ⌝ }
+    ensures { λ r. ⌜ Gives (now (calendar .entry)) (now (tables .entry)) book (now (balances .entry)) (publishedTransfer (record { message = now (message .entry); buffer = now (claims .entry) })) r (now (claims .exit)) (now (balances .exit)) ⌝ }
 {
     let mut own = book;
     let reply = tracker::own_book::claim_tracker_transfer_in(

@@ -19,8 +19,8 @@ use Rattle.claims.specs.Passes.{all-length}
 use Rattle.claims.proofs.Written.{length-written}
 use Rattle.book.specs.declared.Book.{Book}
 use Rattle.book.specs.declared.Done.{Done}
-use Rattle.history.specs.Calls.{Call, transfer, close, bufferOf, claimsOf}
-use Rattle.history.specs.Causes.{roomCauses, callCauses, causes, numberFor}
+use Rattle.history.specs.Calls.{Call, transfer, close, publishedTransfer, bufferOf, claimsOf}
+use Rattle.history.specs.Causes.{roomCauses, callCauses, soundCauses, causes, numberFor}
 use Rattle.history.specs.Results.{Result, nextBook, nextBalances, resultFor, left, result}
 use Rattle.history.proofs.Accepted.{taken, closed}
 use Rattle.stream.specs.Stream.{callWith, callFor, answerBytes, emitted}
@@ -41,7 +41,7 @@ stored-answer l o at number r h e = stored-record answerKind (number ∷ []) [] 
 -- ---- a call with another claim buffer of the same length
 
 unfoldable withBuffer : List ℕ → Call → Call
-withBuffer buffer (transfer a) = transfer (record { message = a .message; buffer = buffer })
+withBuffer buffer (transfer a) = transfer (record { message = a .message; buffer = buffer; limits = a .limits })
 withBuffer buffer (close a) = close (record { message = a .message; buffer = buffer })
 
 with-buffer : (buffer message : List ℕ) → callWith buffer message ≡ withBuffer buffer (callFor message)
@@ -52,15 +52,15 @@ with-buffer buffer message = go (reads closeKind message)
     zeros = replicate 65536 0
 
     go : (b : Bool)
-        → cond b (close (record { message = message; buffer = buffer })) (transfer (record { message = message; buffer = buffer }))
-        ≡ withBuffer buffer (cond b (close (record { message = message; buffer = zeros })) (transfer (record { message = message; buffer = zeros })))
+        → cond b (close (record { message = message; buffer = buffer })) (publishedTransfer (record { message = message; buffer = buffer }))
+        ≡ withBuffer buffer (cond b (close (record { message = message; buffer = zeros })) (publishedTransfer (record { message = message; buffer = zeros })))
     go true = refl
     go false = refl
 
 module _ (calendar tables : List ℕ) (book : Book) (balances : List ℕ) where
   number-with : (buffer : List ℕ) (call : Call) → length buffer ≡ length (bufferOf call)
       → numberFor calendar tables book balances (withBuffer buffer call) ≡ numberFor calendar tables book balances call
-  unfolding withBuffer numberFor causes callCauses roomCauses bufferOf claimsOf
+  unfolding withBuffer numberFor causes soundCauses callCauses roomCauses bufferOf claimsOf
   number-with buffer (transfer a) e = rw e refl
   number-with buffer (close a) e = rw e refl
 
@@ -145,7 +145,7 @@ module _ (calendar tables : List ℕ) (book : Book) (balances message l : List �
     where
       size-of : (b : Bool)
           → min 65536 (length l)
-          ≡ length (bufferOf (cond b (close (record { message = message; buffer = replicate 65536 0 })) (transfer (record { message = message; buffer = replicate 65536 0 }))))
+          ≡ length (bufferOf (cond b (close (record { message = message; buffer = replicate 65536 0 })) (publishedTransfer (record { message = message; buffer = replicate 65536 0 }))))
       size-of true = rw (length-replicate {A = ℕ} 65536 0) (omega arith)
       size-of false = rw (length-replicate {A = ℕ} 65536 0) (omega arith)
 
@@ -312,7 +312,7 @@ module _ (calendar tables : List ℕ) (book : Book) (balances buffer message : L
   calls-close e = ap (result calendar tables book balances) (sym (cond-true _ _ e))
 
   pub calls-transfer : reads closeKind message ≡ false
-      → result calendar tables book balances (transfer (record { message = message; buffer = buffer }))
+      → result calendar tables book balances (publishedTransfer (record { message = message; buffer = buffer }))
       ≡ result calendar tables book balances (callWith buffer message)
   unfolding callWith
   calls-transfer e = ap (result calendar tables book balances) (sym (cond-false _ _ e))

@@ -17,7 +17,7 @@ use Rattle.claims.specs.Written.{written}
 use Rattle.book.specs.declared.Book.{Book}
 use Rattle.book.specs.Soundness.{bookCauses}
 use Rattle.book.proofs.Judged.{sound-number}
-use Rattle.history.specs.Calls.{transfer, close, bufferOf, claimsOf}
+use Rattle.history.specs.Calls.{close, publishedTransfer, bufferOf, claimsOf}
 use Rattle.history.specs.Causes.{numberFor}
 use Rattle.history.specs.Results.{Result, resultFor, result}
 use Rattle.history.proofs.StaysSound.{result-sound}
@@ -38,7 +38,7 @@ module _ (calendar tables : List ℕ) (book : Book) (balances message : List ℕ
   buffer-size = go (reads closeKind message)
     where
       go : (b : Bool)
-          → length (bufferOf (cond b (close (record { message = message; buffer = replicate 65536 0 })) (transfer (record { message = message; buffer = replicate 65536 0 }))))
+          → length (bufferOf (cond b (close (record { message = message; buffer = replicate 65536 0 })) (publishedTransfer (record { message = message; buffer = replicate 65536 0 }))))
           ≡ 65536
       go true = length-replicate {A = ℕ} 65536 0
       go false = length-replicate {A = ℕ} 65536 0

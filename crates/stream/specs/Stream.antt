@@ -9,7 +9,7 @@ use lib.ListN.{length, take, drop, replicate}
 use Rattle.records.specs.MessageRecords.{transferKind, closeKind, answerKind, size, recordBytes, header, reads}
 use Rattle.claims.specs.Written.{claimSize}
 use Rattle.book.specs.declared.Book.{Book}
-use Rattle.history.specs.Calls.{Call, transfer, close}
+use Rattle.history.specs.Calls.{Call, close, publishedTransfer}
 use Rattle.history.specs.Results.{Answer, run}
 use Rattle.stream.specs.declared.Next.{Next}
 use Rattle.stream.specs.declared.Next.the-variants.{Waiting, Wrong, Record}
@@ -35,7 +35,7 @@ claimRoom = 65536
 -- The call that a record asks for, with a claim buffer.
 unfoldable pub callWith : List ℕ → List ℕ → Call
 callWith buffer message =
-    cond (reads closeKind message) (close (record { message = message; buffer = buffer })) (transfer (record { message = message; buffer = buffer }))
+    cond (reads closeKind message) (close (record { message = message; buffer = buffer })) (publishedTransfer (record { message = message; buffer = buffer }))
 
 -- What a claim buffer holds before a call does not show in what is written for it, so it is taken as zeros.
 unfoldable pub callFor : List ℕ → Call

@@ -7,7 +7,7 @@ use Prim.Native.Nat.{ℕ, _+_}
 use Rattle.days.specs.Days.{openAfter}
 use Rattle.book.specs.declared.Book.{Book}
 use Rattle.book.specs.declared.Done.{Done}
-use Rattle.history.specs.Calls.{Arguments, Call, transfer, close, bufferOf}
+use Rattle.history.specs.Calls.{Arguments, TransferArguments, Call, transfer, close, bufferOf}
 use Rattle.history.specs.Results.{left, result}
 use Rattle.tracker.specs.declared.own_book.Reply.{Reply}
 
@@ -49,7 +49,7 @@ RefusedLeaves = (calendar tables : List ℕ) (book : Book) (balances : List ℕ)
 -- An accepted transfer counts on the caller's book and leaves its day; an accepted close moves its day to the next open day and leaves
 -- its count.
 abbrev pub AcceptedTransferCounts : Type 0
-AcceptedTransferCounts = (calendar tables : List ℕ) (book : Book) (balances : List ℕ) (a : Arguments) (r : Reply) (own : Book)
+AcceptedTransferCounts = (calendar tables : List ℕ) (book : Book) (balances : List ℕ) (a : TransferArguments) (r : Reply) (own : Book)
     (buffer after : List ℕ) → Gives calendar tables book balances (transfer a) (together r own) buffer after → r .number ≡ 0
     → (own .count ≡ book .count + 1) × (own .day ≡ book .day)
 

@@ -1,6 +1,6 @@
 // Opening, transfer and close for C and Rust callers. A slice passes as a pointer and a count of its elements.
 ghost use mathlib.Core.Path.{_≡_};
-ghost use Rattle.history.specs.Calls.{Call};
+ghost use Rattle.history.specs.Calls.{Call, publishedTransfer};
 ghost use Rattle.history.specs.Results.{leftOpen, opened};
 ghost use Rattle.tracker.specs.Forms.{Gives};
 use book::Book;
@@ -31,7 +31,7 @@ pub extern "C" fn claim_tracker_transfer(
     message: &[u8],
     claims: &mut [u8],
 ) -> Done
-    ensures { λ r. ⌜ Gives (now (calendar .entry)) (now (tables .entry)) book (now (balances .entry)) (Call.transfer (record { message = now (message .entry); buffer = now (claims .entry) })) r (now (claims .exit)) (now (balances .exit)) ⌝ }
+    ensures { λ r. ⌜ Gives (now (calendar .entry)) (now (tables .entry)) book (now (balances .entry)) (publishedTransfer (record { message = now (message .entry); buffer = now (claims .entry) })) r (now (claims .exit)) (now (balances .exit)) ⌝ }
 {
     transfers::transfer(calendar, tables, book, balances, message, claims)
 }

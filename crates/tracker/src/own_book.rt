@@ -1,5 +1,5 @@
 // Transfer and close in the second form: the call updates the day and transfer count of the caller's own book.
-ghost use Rattle.history.specs.Calls.{Call};
+ghost use Rattle.history.specs.Calls.{Call, publishedTransfer};
 ghost use Rattle.tracker.specs.Forms.{Gives, together};
 use book::Book;
 
@@ -20,7 +20,7 @@ pub extern "C" fn claim_tracker_transfer_in(
     message: &[u8],
     claims: &mut [u8],
 ) -> Reply
-    ensures { λ r. ⌜ Gives (now (calendar .entry)) (now (tables .entry)) (now (book .entry)) (now (balances .entry)) (Call.transfer (record { message = now (message .entry); buffer = now (claims .entry) })) (together r (now (book .exit))) (now (claims .exit)) (now (balances .exit)) ⌝ }
+    ensures { λ r. ⌜ Gives (now (calendar .entry)) (now (tables .entry)) (now (book .entry)) (now (balances .entry)) (publishedTransfer (record { message = now (message .entry); buffer = now (claims .entry) })) (together r (now (book .exit))) (now (claims .exit)) (now (balances .exit)) ⌝ }
 {
     let d = crate::calls::claim_tracker_transfer(
         calendar,

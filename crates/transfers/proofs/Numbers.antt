@@ -17,7 +17,7 @@ use Rattle.tags.proofs.Causes.{edits-numbered}
 use Rattle.claims.specs.Fails.{messageTag, transferClaims}
 use Rattle.book.specs.declared.Book.{Book}
 use Rattle.book.specs.Loans.{loanCauses}
-use Rattle.history.specs.Calls.{Arguments, transfer, claimsOf}
+use Rattle.history.specs.Calls.{TransferArguments, transfer, claimsOf}
 use Rattle.history.proofs.Accepted.{Fields, fields}
 use Rattle.history.specs.Causes.{recordCauses, fieldCauses, outOfRange, countCauses, transferCauses, roomCauses, callCauses}
 
@@ -80,7 +80,7 @@ module _ (tables : List ℕ) (book : Book) (balances : List ℕ) (t : Transfer) 
 
 -- ---- the causes of a transfer on a sound book
 
-module _ (calendar tables : List ℕ) (book : Book) (balances : List ℕ) (a : Arguments) where
+module _ (calendar tables : List ℕ) (book : Book) (balances : List ℕ) (a : TransferArguments) where
   pub transfer-cut : reads transferKind (a .message) ≡ false → 5 ≡ firstOf (callCauses calendar tables book balances (transfer a))
   unfolding callCauses recordCauses
   transfer-cut r = hit 5 _ (ap not r)
@@ -110,7 +110,7 @@ module _ (calendar tables : List ℕ) (book : Book) (balances : List ℕ) (a : A
 
 -- ---- the same, said of the fields and the tag that code has read
 
-module _ (calendar tables : List ℕ) (book : Book) (balances : List ℕ) (a : Arguments) (r : reads transferKind (a .message) ≡ true)
+module _ (calendar tables : List ℕ) (book : Book) (balances : List ℕ) (a : TransferArguments) (r : reads transferKind (a .message) ≡ true)
     (t : Transfer) (tag : Tag) (p : t ≡ transferOf (a .message)) (q : tag ≡ messageTag (a .message))
     (n : ℕ) (e : n ≡ firstOf (transferCauses tables book balances t tag)) where
   same-causes : n ≡ firstOf (transferCauses tables book balances (transferOf (a .message)) (messageTag (a .message)))

@@ -7,7 +7,7 @@ ghost use lib.ListN.{length};
 ghost use Rattle.lists.specs.First.{firstOf};
 ghost use Rattle.records.specs.MessageRecords.{transferKind, transferOf, reads};
 ghost use Rattle.book.specs.Soundness.{bookCauses};
-ghost use Rattle.history.specs.Calls.{Call};
+ghost use Rattle.history.specs.Calls.{publishedTransfer};
 ghost use Rattle.history.specs.Causes.{outOfRange, transferCauses};
 ghost use Rattle.history.specs.Results.{left, result};
 use book::Book;
@@ -84,7 +84,7 @@ fn transfer_read(
     t: Transfer,
 ) -> Done
     requires { ⌜ (firstOf (bookCauses (now calendar) (now tables) (book .day) (now balances)) ≡ 0) × (reads transferKind (now message) ≡ true) × (t ≡ transferOf (now message)) ⌝ }
-    ensures { λ r. ⌜ left r (now (claims .exit)) (now (balances .exit)) ≡ result (now (calendar .entry)) (now (tables .entry)) book (now (balances .entry)) (Call.transfer (record { message = now (message .entry); buffer = now (claims .entry) })) ⌝ }
+    ensures { λ r. ⌜ left r (now (claims .exit)) (now (balances .exit)) ≡ result (now (calendar .entry)) (now (tables .entry)) book (now (balances .entry)) (publishedTransfer (record { message = now (message .entry); buffer = now (claims .entry) })) ⌝ }
 {
     let tag = tags::tag_of(reading::first_line(message), reading::second_line(message));
     let number = own_number(tables, book, balances, t, tag);
@@ -117,7 +117,7 @@ pub fn transfer_sound(
     claims: &mut [u8],
 ) -> Done
     requires { ⌜ firstOf (bookCauses (now calendar) (now tables) (book .day) (now balances)) ≡ 0 ⌝ }
-    ensures { λ r. ⌜ left r (now (claims .exit)) (now (balances .exit)) ≡ result (now (calendar .entry)) (now (tables .entry)) book (now (balances .entry)) (Call.transfer (record { message = now (message .entry); buffer = now (claims .entry) })) ⌝ }
+    ensures { λ r. ⌜ left r (now (claims .exit)) (now (balances .exit)) ≡ result (now (calendar .entry)) (now (tables .entry)) book (now (balances .entry)) (publishedTransfer (record { message = now (message .entry); buffer = now (claims .entry) })) ⌝ }
 {
     let ReadTransfer::Is(t) = reading::read_transfer(message) else {
         return book::refused(5, book);
@@ -134,7 +134,7 @@ pub fn transfer(
     message: &[u8],
     claims: &mut [u8],
 ) -> Done
-    ensures { λ r. ⌜ left r (now (claims .exit)) (now (balances .exit)) ≡ result (now (calendar .entry)) (now (tables .entry)) book (now (balances .entry)) (Call.transfer (record { message = now (message .entry); buffer = now (claims .entry) })) ⌝ }
+    ensures { λ r. ⌜ left r (now (claims .exit)) (now (balances .exit)) ≡ result (now (calendar .entry)) (now (tables .entry)) book (now (balances .entry)) (publishedTransfer (record { message = now (message .entry); buffer = now (claims .entry) })) ⌝ }
 {
     let number = judging::book_number(calendar, tables, book.day, balances);
     if number != 0 {

@@ -1,5 +1,6 @@
 -- A number of the causes 1 to 4 refuses the call; else the book is sound.
 use Rattle.history.specs.Calls.{bufferOf, close}
+use Rattle.history.specs.Causes.{soundCauses}
 use Rattle.history.proofs.Answers.{answers-refused, book-refuses}
 use borrow.Author.Needs.{needs}
 use Rattle.closes.proofs.close.Statement.{statement}
@@ -15,7 +16,7 @@ same-length : tie.Need-same-length
 same-length c = search needs
 
 returns : tie.Need-returns
-unfolding bufferOf
+unfolding bufferOf soundCauses
 returns c =
     let a = c .before .before .before .before .before .before .before .before .before .args in
     let k = close (record { message = a .message .now; buffer = a .claims .now }) in

@@ -6,6 +6,7 @@ use Rattle.claims.specs.Passes.{free-count, free-store, passed-written}
 use Rattle.book.proofs.Judged as judged
 use Rattle.claims.proofs.Turns.{close-few}
 use Rattle.history.specs.Calls.{close, bufferOf, claimsOf}
+use Rattle.history.specs.Causes.{soundCauses}
 use Rattle.history.specs.Results.{nextBook, nextBalances}
 use Rattle.history.proofs.Answers.{answers-refused, answers-accepted, sound-number}
 use Rattle.closes.proofs.Numbers.{close-cut, close-last, close-room, close-accepted, sound-close, small-balances}
@@ -25,7 +26,7 @@ refused-requires : tie.Need-refused-requires
 refused-requires c κs = search needs
 
 returns : tie.Need-returns
-unfolding bufferOf
+unfolding bufferOf soundCauses
 returns c =
     let s = c .before .before .before .before .before .before .before .before .before in
     let a = s .args in
@@ -48,7 +49,7 @@ refused-requires-2 : tie.Need-refused-requires-2
 refused-requires-2 c κs = search needs
 
 returns-2 : tie.Need-returns-2
-unfolding bufferOf
+unfolding bufferOf soundCauses
 returns-2 c =
     let s = c .before .before .before .before .before .before .before .before .before .before .before .before in
     let a = s .args in
@@ -81,7 +82,7 @@ same-length-2 : tie.Need-same-length-2
 same-length-2 c = search needs
 
 returns-3 : tie.Need-returns-3
-unfolding bufferOf
+unfolding bufferOf soundCauses
 returns-3 c =
     let s = c .before .before .before .before .before .before .before .before .before .before .before .before .before .before .before .before .before .before in
     let a = s .args in
@@ -112,7 +113,7 @@ same-length-4 : tie.Need-same-length-4
 same-length-4 c = search needs
 
 returns-4 : tie.Need-returns-4
-unfolding bufferOf claimsOf nextBook nextBalances
+unfolding bufferOf soundCauses claimsOf nextBook nextBalances
 returns-4 c =
     let s = c .before .before .before .before .before .before .before .before .before .before .before .before .before .before .before .before .before .before .before .before .before .before in
     let a = s .args in

@@ -1,8 +1,8 @@
--- `book_number` gives the first number of the table, then 4 for the day or the balances.
+-- `book_number` gives the first number of the table, then that of the day and the balances.
 use mathlib.Core.Path.{sym, _∙_}
-use Rattle.lists.specs.First.{hit, skip, none, hit-group, skip-group}
-use Rattle.book.specs.Soundness.{badDay, bookCauses}
-use Rattle.book.proofs.Causes.{or-left, or-right, or-none, numbered-tables, calendar-length, balance-length}
+use Rattle.lists.specs.First.{hit-group, skip-group}
+use Rattle.book.specs.Soundness.{bookCauses}
+use Rattle.book.proofs.Causes.{numbered-tables, calendar-length, balance-length}
 use borrow.Author.Needs.{needs}
 use Rattle.judging.proofs.book_number.Statement.{statement}
 use Rattle.judging.proofs.book_number.Tie as tie
@@ -14,23 +14,14 @@ returns : tie.Need-returns
 unfolding bookCauses
 returns c = hit-group _ _ (c .before .table-number .ensures) (c .if1 .taken)
 
-bad-day-requires : tie.Need-bad-day-requires
-bad-day-requires c κs = calendar-length _ _ _ (sym (c .before .table-number .ensures) ∙ c .if1 .left)
+state-number-requires : tie.Need-state-number-requires
+state-number-requires c κs =
+    let z = sym (c .before .table-number .ensures) ∙ c .if1 .left in
+    (calendar-length _ _ _ z, balance-length _ _ _ z)
 
 returns-2 : tie.Need-returns-2
 unfolding bookCauses
-returns-2 c = skip-group _ _ (numbered-tables _ _ _) (c .before .before .before .table-number .ensures) (c .before .before .if1 .left) (hit 4 _ (or-left _ _ (sym (c .before .bad-day .ensures) ∙ c .if2 .taken)))
-
-bad-balances-requires : tie.Need-bad-balances-requires
-bad-balances-requires c κs = balance-length _ _ _ (sym (c .before .before .before .table-number .ensures) ∙ c .before .before .if1 .left)
-
-returns-3 : tie.Need-returns-3
-unfolding bookCauses
-returns-3 c = skip-group _ _ (numbered-tables _ _ _) (c .before .before .before .before .before .table-number .ensures) (c .before .before .before .before .if1 .left) (hit 4 _ (or-right (badDay _ _) _ (sym (c .before .bad-balances .ensures) ∙ c .if3 .taken)))
-
-returns-4 : tie.Need-returns-4
-unfolding bookCauses
-returns-4 c = skip-group _ _ (numbered-tables _ _ _) (c .before .before .before .before .before .table-number .ensures) (c .before .before .before .before .if1 .left) (skip 4 _ (or-none _ _ (sym (c .before .before .before .bad-day .ensures) ∙ c .before .before .if2 .left) (sym (c .before .bad-balances .ensures) ∙ c .if3 .left)) none)
+returns-2 c = skip-group _ _ (numbered-tables _ _ _) (c .before .before .table-number .ensures) (c .before .if1 .left) (c .state-number .ensures)
 
 pub book-number-spec : {M : Type 1} → statement M
 book-number-spec =
@@ -38,8 +29,5 @@ book-number-spec =
     (tie.spec
     table-number-requires
     returns
-    bad-day-requires
-    returns-2
-    bad-balances-requires
-    returns-3
-    returns-4)
+    state-number-requires
+    returns-2)

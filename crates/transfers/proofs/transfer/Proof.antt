@@ -1,5 +1,7 @@
 -- A number of the causes 1 to 4 refuses the call; else the book is sound.
+use Rattle.claims.specs.Fails.{maximumNumbers}
 use Rattle.history.specs.Calls.{bufferOf, transfer}
+use Rattle.history.specs.Causes.{soundCauses}
 use Rattle.history.proofs.Answers.{answers-refused, book-refuses}
 use borrow.Author.Needs.{needs}
 use Rattle.transfers.proofs.transfer.Statement.{statement}
@@ -15,10 +17,10 @@ same-length : tie.Need-same-length
 same-length c = search needs
 
 returns : tie.Need-returns
-unfolding bufferOf
+unfolding bufferOf soundCauses
 returns c =
     let a = c .before .before .before .before .before .before .before .before .before .args in
-    let k = transfer (record { message = a .message .now; buffer = a .claims .now }) in
+    let k = transfer (record { message = a .message .now; buffer = a .claims .now; limits = maximumNumbers }) in
     rw (c .refused .ensures)
     (answers-refused (a .calendar .now) (a .tables .now) (a .book) (a .balances .now) k _ (book-refuses (a .calendar .now) (a .tables .now) (a .book) (a .balances .now) k _ (c .before .before .book-number .ensures) (c .before .if1 .taken)) (c .before .if1 .taken))
 

@@ -16,7 +16,9 @@ use Rattle.fails.specs.Recent.{recentClaims}
 use Rattle.fails.proofs.Claimed.{Recently, recently}
 use Rattle.book.specs.Loans.{changeOf, changed}
 use Rattle.book.proofs.Judged as judged
+use Rattle.claims.specs.Fails.{maximumNumbers}
 use Rattle.history.specs.Calls.{transfer, bufferOf, claimsOf}
+use Rattle.history.specs.Causes.{soundCauses}
 use Rattle.history.specs.Results.{nextBook, nextBalances}
 use Rattle.history.proofs.Answers.{answers-refused, answers-accepted, sound-number}
 use Rattle.transfers.proofs.Numbers.{tag-read, passed, same-claims, read-refused, read-room, read-accepted}
@@ -46,13 +48,13 @@ same-length : tie.Need-same-length
 same-length c = search needs
 
 returns : tie.Need-returns
-unfolding bufferOf
+unfolding bufferOf soundCauses
 returns c =
     let s = c .before .before .before .before .before .before .before .before .before .before .before .before in
     let a = s .args in
     rw (c .refused .ensures)
-    (answers-refused (a .calendar .now) (a .tables .now) (a .book) (a .balances .now) (transfer (record { message = a .message .now; buffer = a .claims .now })) _
-    (sound-number (a .calendar .now) (a .tables .now) (a .book) (a .balances .now) (transfer (record { message = a .message .now; buffer = a .claims .now })) _ (s .pre .0) (read-refused (a .calendar .now) (a .tables .now) (a .book) (a .balances .now) (record { message = a .message .now; buffer = a .claims .now }) (s .pre .1) (a .t) _ (s .pre .2) (tag-read (a .message .now) (c .before .before .before .before .tag-of .ensures) (c .before .before .before .before .before .before .first-line .ensures) (c .before .before .before .before .before .second-line .ensures)) _ (c .before .before .own-number .ensures) (c .before .if1 .taken)))
+    (answers-refused (a .calendar .now) (a .tables .now) (a .book) (a .balances .now) (transfer (record { message = a .message .now; buffer = a .claims .now; limits = maximumNumbers })) _
+    (sound-number (a .calendar .now) (a .tables .now) (a .book) (a .balances .now) (transfer (record { message = a .message .now; buffer = a .claims .now; limits = maximumNumbers })) _ (s .pre .0) (read-refused (a .calendar .now) (a .tables .now) (a .book) (a .balances .now) (record { message = a .message .now; buffer = a .claims .now; limits = maximumNumbers }) (s .pre .1) (a .t) _ (s .pre .2) (tag-read (a .message .now) (c .before .before .before .before .tag-of .ensures) (c .before .before .before .before .before .before .first-line .ensures) (c .before .before .before .before .before .second-line .ensures)) _ (c .before .before .own-number .ensures) (c .before .if1 .taken)))
     (c .before .if1 .taken))
 
 add-count : tie.Need-add-count
@@ -115,15 +117,15 @@ same-length-3 : tie.Need-same-length-3
 same-length-3 c = search needs
 
 returns-2 : tie.Need-returns-2
-unfolding bufferOf
+unfolding bufferOf soundCauses
 returns-2 c =
     let s = c .before .before .before .before .before .before .before .before .before .before .before .before .before .before .before .before .before .before .before in
     let a = s .args in
     let p = c .before .before .before .before .transfer-claims .ensures in
     rw (c .refused2 .ensures, p .bytes)
-    (answers-refused (a .calendar .now) (a .tables .now) (a .book) (a .balances .now) (transfer (record { message = a .message .now; buffer = a .claims .now })) _
-    (sound-number (a .calendar .now) (a .tables .now) (a .book) (a .balances .now) (transfer (record { message = a .message .now; buffer = a .claims .now })) _ (s .pre .0)
-    (read-room (a .calendar .now) (a .tables .now) (a .book) (a .balances .now) (record { message = a .message .now; buffer = a .claims .now }) (s .pre .1) (a .t) _ (s .pre .2) (tag-read (a .message .now) (c .before .before .before .before .before .before .before .before .before .before .before .tag-of .ensures) (c .before .before .before .before .before .before .before .before .before .before .before .before .before .first-line .ensures) (c .before .before .before .before .before .before .before .before .before .before .before .before .second-line .ensures)) _ (c .before .before .before .before .before .before .before .before .before .own-number .ensures) (c .before .before .before .before .before .before .before .before .if1 .left) (omega (arith, p .next, ap length (claims-on (c .before .before .before .before .before .before) .claims), c .before .if2 .taken, c .before .before .before .before .transfer-claims .kept .1 .0))))
+    (answers-refused (a .calendar .now) (a .tables .now) (a .book) (a .balances .now) (transfer (record { message = a .message .now; buffer = a .claims .now; limits = maximumNumbers })) _
+    (sound-number (a .calendar .now) (a .tables .now) (a .book) (a .balances .now) (transfer (record { message = a .message .now; buffer = a .claims .now; limits = maximumNumbers })) _ (s .pre .0)
+    (read-room (a .calendar .now) (a .tables .now) (a .book) (a .balances .now) (record { message = a .message .now; buffer = a .claims .now; limits = maximumNumbers }) (s .pre .1) (a .t) _ (s .pre .2) (tag-read (a .message .now) (c .before .before .before .before .before .before .before .before .before .before .before .tag-of .ensures) (c .before .before .before .before .before .before .before .before .before .before .before .before .before .first-line .ensures) (c .before .before .before .before .before .before .before .before .before .before .before .before .second-line .ensures)) _ (c .before .before .before .before .before .before .before .before .before .own-number .ensures) (c .before .before .before .before .before .before .before .before .if1 .left) (omega (arith, p .next, ap length (claims-on (c .before .before .before .before .before .before) .claims), c .before .if2 .taken, c .before .before .before .before .transfer-claims .kept .1 .0))))
     (λ z. omega arith))
 
 post-requires : tie.Need-post-requires
@@ -149,17 +151,17 @@ same-length-5 : tie.Need-same-length-5
 same-length-5 c = search needs
 
 returns-3 : tie.Need-returns-3
-unfolding bufferOf claimsOf nextBook nextBalances
+unfolding bufferOf soundCauses claimsOf nextBook nextBalances
 returns-3 c =
     let s = c .before .before .before .before .before .before .before .before .before .before .before .before .before .before .before .before .before .before .before .before .before .before .before .before .before .before in
     let a = s .args in
     let p = c .before .before .before .before .before .before .before .before .before .before .before .transfer-claims .ensures in
     let q = c .before .before .transfer-claims2 .ensures in
     let w = claims-on (c .before .before .before .before .before .before .before .before .before .before .before .before .before) .claims in
-    let e = same-claims (a .calendar .now) (a .tables .now) (a .book) (a .balances .now) (record { message = a .message .now; buffer = a .claims .now }) (s .pre .1) (a .t) _ (s .pre .2) (tag-read (a .message .now) (c .before .before .before .before .before .before .before .before .before .before .before .before .before .before .before .before .before .before .tag-of .ensures) (c .before .before .before .before .before .before .before .before .before .before .before .before .before .before .before .before .before .before .before .before .first-line .ensures) (c .before .before .before .before .before .before .before .before .before .before .before .before .before .before .before .before .before .before .before .second-line .ensures)) _ (c .before .before .before .before .before .before .before .before .before .before .before .before .before .before .before .before .own-number .ensures) in
-    answers-accepted (a .calendar .now) (a .tables .now) (a .book) (a .balances .now) (transfer (record { message = a .message .now; buffer = a .claims .now })) _ _ _ _
-    (sound-number (a .calendar .now) (a .tables .now) (a .book) (a .balances .now) (transfer (record { message = a .message .now; buffer = a .claims .now })) _ (s .pre .0)
-    (read-accepted (a .calendar .now) (a .tables .now) (a .book) (a .balances .now) (record { message = a .message .now; buffer = a .claims .now }) (s .pre .1) (a .t) _ (s .pre .2) (tag-read (a .message .now) (c .before .before .before .before .before .before .before .before .before .before .before .before .before .before .before .before .before .before .tag-of .ensures) (c .before .before .before .before .before .before .before .before .before .before .before .before .before .before .before .before .before .before .before .before .first-line .ensures) (c .before .before .before .before .before .before .before .before .before .before .before .before .before .before .before .before .before .before .before .second-line .ensures)) _ (c .before .before .before .before .before .before .before .before .before .before .before .before .before .before .before .before .own-number .ensures) (c .before .before .before .before .before .before .before .before .before .before .before .before .before .before .before .if1 .left) (omega (arith, p .next, ap length w, c .before .before .before .before .before .before .before .before .if2 .left, c .before .before .before .before .before .before .before .before .before .before .before .transfer-claims .kept .1 .0))))
+    let e = same-claims (a .calendar .now) (a .tables .now) (a .book) (a .balances .now) (record { message = a .message .now; buffer = a .claims .now; limits = maximumNumbers }) (s .pre .1) (a .t) _ (s .pre .2) (tag-read (a .message .now) (c .before .before .before .before .before .before .before .before .before .before .before .before .before .before .before .before .before .before .tag-of .ensures) (c .before .before .before .before .before .before .before .before .before .before .before .before .before .before .before .before .before .before .before .before .first-line .ensures) (c .before .before .before .before .before .before .before .before .before .before .before .before .before .before .before .before .before .before .before .second-line .ensures)) _ (c .before .before .before .before .before .before .before .before .before .before .before .before .before .before .before .before .own-number .ensures) in
+    answers-accepted (a .calendar .now) (a .tables .now) (a .book) (a .balances .now) (transfer (record { message = a .message .now; buffer = a .claims .now; limits = maximumNumbers })) _ _ _ _
+    (sound-number (a .calendar .now) (a .tables .now) (a .book) (a .balances .now) (transfer (record { message = a .message .now; buffer = a .claims .now; limits = maximumNumbers })) _ (s .pre .0)
+    (read-accepted (a .calendar .now) (a .tables .now) (a .book) (a .balances .now) (record { message = a .message .now; buffer = a .claims .now; limits = maximumNumbers }) (s .pre .1) (a .t) _ (s .pre .2) (tag-read (a .message .now) (c .before .before .before .before .before .before .before .before .before .before .before .before .before .before .before .before .before .before .tag-of .ensures) (c .before .before .before .before .before .before .before .before .before .before .before .before .before .before .before .before .before .before .before .before .first-line .ensures) (c .before .before .before .before .before .before .before .before .before .before .before .before .before .before .before .before .before .before .before .second-line .ensures)) _ (c .before .before .before .before .before .before .before .before .before .before .before .before .before .before .before .before .own-number .ensures) (c .before .before .before .before .before .before .before .before .before .before .before .before .before .before .before .if1 .left) (omega (arith, p .next, ap length w, c .before .before .before .before .before .before .before .before .if2 .left, c .before .before .before .before .before .before .before .before .before .before .before .transfer-claims .kept .1 .0))))
     refl
     (omega (arith, q .next, ap length w, ap length e))
     (passed-written _ _ _ _ _ _ p q ∙ ap (λ x. written x (a .claims .now)) (sym w ∙ e))

@@ -1,6 +1,8 @@
 -- A message that does not read gets 5; else its fields are judged.
 use Rattle.records.proofs.Answers.{transfer-is, transfer-not}
+use Rattle.claims.specs.Fails.{maximumNumbers}
 use Rattle.history.specs.Calls.{transfer, bufferOf}
+use Rattle.history.specs.Causes.{soundCauses}
 use Rattle.history.proofs.Answers.{answers-refused, sound-number}
 use Rattle.transfers.proofs.Numbers.{transfer-cut}
 use borrow.Author.Needs.{needs}
@@ -21,14 +23,14 @@ refused-requires : tie.Need-refused-requires
 refused-requires c κs = search needs
 
 returns : tie.Need-returns
-unfolding bufferOf
+unfolding bufferOf soundCauses
 returns c =
     let s = c .before .before .before .before .before .before .before .before .before in
     let a = s .args in
     rw (c .refused .ensures)
-    (answers-refused (a .calendar .now) (a .tables .now) (a .book) (a .balances .now) (transfer (record { message = a .message .now; buffer = a .claims .now })) _
-    (sound-number (a .calendar .now) (a .tables .now) (a .book) (a .balances .now) (transfer (record { message = a .message .now; buffer = a .claims .now })) _ (s .pre)
-    (transfer-cut (a .calendar .now) (a .tables .now) (a .book) (a .balances .now) (record { message = a .message .now; buffer = a .claims .now }) (transfer-not (a .message .now) (c .before .before .before .read-transfer .ensures) (c .before .enum-told .given .1))))
+    (answers-refused (a .calendar .now) (a .tables .now) (a .book) (a .balances .now) (transfer (record { message = a .message .now; buffer = a .claims .now; limits = maximumNumbers })) _
+    (sound-number (a .calendar .now) (a .tables .now) (a .book) (a .balances .now) (transfer (record { message = a .message .now; buffer = a .claims .now; limits = maximumNumbers })) _ (s .pre)
+    (transfer-cut (a .calendar .now) (a .tables .now) (a .book) (a .balances .now) (record { message = a .message .now; buffer = a .claims .now; limits = maximumNumbers }) (transfer-not (a .message .now) (c .before .before .before .read-transfer .ensures) (c .before .enum-told .given .1))))
     (λ z. omega arith))
 
 transfer-read-requires : tie.Need-transfer-read-requires
