@@ -9,12 +9,14 @@ use lib.Dec.{eqb, leb}
 use lib.ListN.{length, getD}
 use borrow.Author.Tests.{eqb-true, eqb-false, eq-eqb, leb-true, not-false}
 use Rattle.lists.specs.Tests.{and-left, and-right, or-false-left, or-false-right}
-use Rattle.lists.specs.First.{NoneApplies, firstOf, numbered, appliesAt, cleared-by, none-applies}
+use Rattle.lists.specs.First.{NoneApplies, firstOf, numbered, appliesAt, cleared, cleared-by, none-applies, first-none}
 use Rattle.days.specs.Days.{badCalendar, isOpen, openAfter}
 use Rattle.days.proofs.OpenDays.{Kept}
+use Rattle.securities.specs.Lent.{goodLimits}
 use Rattle.securities.specs.Securities.{goodTables}
+use Rattle.securities.proofs.Sound.{five-limits}
 use Rattle.book.specs.Book.{Position, InRange, word, position, balanceAt}
-use Rattle.book.specs.Soundness.{wrongLength, badDay, goodBalance, goodBalancesFrom, badBalances, tableCauses, stateCauses, bookCauses, openingCauses}
+use Rattle.book.specs.Soundness.{wrongLength, badDay, goodBalance, goodBalancesFrom, badBalances, tableCauses, stateCauses, bookCauses, lentCauses, lentBookCauses, openingCauses}
 use Rattle.book.proofs.Words.{position-word, word-bound}
 
 -- ---- calendar and tables
@@ -148,3 +150,30 @@ pub sound-number : (calendar tables : List ℕ) (day : ℕ) (balances : List ℕ
     → SoundBook calendar tables day balances
 sound-number calendar tables day balances z =
     sound-book calendar tables day balances (none-applies _ (numbered-book calendar tables day balances) z)
+
+-- ---- a transfer that is lent limits: numbers 1 to 4, and 12
+
+module _ (calendar tables limits : List ℕ) (day : ℕ) (balances : List ℕ) where
+  pub numbered-lent : numbered (lentBookCauses calendar tables limits day balances) ≡ true
+  unfolding numbered lentBookCauses tableCauses lentCauses stateCauses
+  numbered-lent = refl
+
+  -- where none of them applies, none of 1 to 4 does
+  pub lent-none : NoneApplies (lentBookCauses calendar tables limits day balances) → NoneApplies (bookCauses calendar tables day balances)
+  unfolding lentBookCauses bookCauses tableCauses lentCauses stateCauses
+  lent-none n = (n .0, (n .1 .0, (n .1 .1 .0, n .1 .1 .1 .1)))
+
+  pub lent-sound : firstOf (lentBookCauses calendar tables limits day balances) ≡ 0 → SoundBook calendar tables day balances
+  lent-sound z = sound-book calendar tables day balances (lent-none (none-applies _ numbered-lent z))
+
+  pub lent-limits : firstOf (lentBookCauses calendar tables limits day balances) ≡ 0 → length limits ≡ 5
+  unfolding lentBookCauses tableCauses lentCauses appliesAt
+  lent-limits z = five-limits limits (not-false _ (cleared 12 (lentBookCauses calendar tables limits day balances) numbered-lent z))
+
+  -- on a sound book good limits are sound
+  pub sound-lent : firstOf (bookCauses calendar tables day balances) ≡ 0 → goodLimits limits ≡ true
+      → firstOf (lentBookCauses calendar tables limits day balances) ≡ 0
+  unfolding lentBookCauses bookCauses tableCauses lentCauses stateCauses
+  sound-lent z g =
+      let n = none-applies (bookCauses calendar tables day balances) (numbered-book calendar tables day balances) z in
+      first-none (lentBookCauses calendar tables limits day balances) (n .0, (n .1 .0, (n .1 .1 .0, (ap not g, n .1 .1 .1))))

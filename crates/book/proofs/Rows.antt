@@ -12,7 +12,7 @@ use Rattle.days.specs.Weekdays.{weekdays}
 use Rattle.records.specs.declared.Transfer.{Transfer}
 use Rattle.securities.specs.Cases.{caseTables}
 use Rattle.book.specs.Loans.{changeOf, changed, aboveBalance, pastLimit}
-use Rattle.book.specs.Soundness.{bookCauses, openingCauses}
+use Rattle.book.specs.Soundness.{bookCauses, lentBookCauses, openingCauses}
 use Rattle.book.proofs.Opened.{openedBook}
 
 -- ---- loans
@@ -115,6 +115,27 @@ judged =
     && eqb (firstOf (openingCauses weekdays caseTables (replicate 4096 0) 20230404)) 1
     && eqb (firstOf (openingCauses weekdays caseTables (set zeros 0 1) 20230401)) 4
 
-rows-hold : all holds rows && judged ≡ true
-unfolding openedBook held sent rows flag holds number zeros judged
+-- limits: good, then with 12 after 1, 2 and 3 and before 4
+lentNumber : List ℕ → List ℕ → List ℕ → ℕ → List ℕ → ℕ
+lentNumber calendar tables limits day balances = firstOf (lentBookCauses calendar tables limits day balances)
+
+published : List ℕ
+published = 7 ∷ 6 ∷ 3 ∷ 2 ∷ 1 ∷ []
+
+lent : Bool
+lent =
+    eqb (lentNumber weekdays caseTables published 20230404 held) 0
+    && eqb (lentNumber weekdays caseTables (1 ∷ 16 ∷ 16 ∷ 16 ∷ 16 ∷ []) 20230404 zeros) 0
+    && eqb (lentNumber (replicate 479 0) caseTables [] 20230401 zeros) 1
+    && eqb (lentNumber weekdays caseTables [] 20230404 (replicate 4096 0)) 1
+    && eqb (lentNumber (set weekdays 1 4294967295) caseTables [] 20230401 zeros) 2
+    && eqb (lentNumber weekdays (set caseTables 0 9) [] 20230401 zeros) 3
+    && eqb (lentNumber weekdays caseTables [] 20230404 zeros) 12
+    && eqb (lentNumber weekdays caseTables (7 ∷ 6 ∷ 7 ∷ 2 ∷ 1 ∷ []) 20230401 zeros) 12
+    && eqb (lentNumber weekdays caseTables (0 ∷ 6 ∷ 3 ∷ 2 ∷ 1 ∷ []) 20230404 (set zeros 0 1)) 12
+    && eqb (lentNumber weekdays caseTables published 20230401 zeros) 4
+    && eqb (lentNumber weekdays caseTables published 20230404 (set zeros 8191 1)) 4
+
+rows-hold : all holds rows && judged && lent ≡ true
+unfolding openedBook held sent rows flag holds number zeros judged lentNumber published lent
 rows-hold = refl

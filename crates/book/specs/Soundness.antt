@@ -1,4 +1,5 @@
--- Document 01, What can be refused, numbers 1 to 4: calendar, tables, day and balances that a call can work on.
+-- Document 01, What can be refused, numbers 1 to 4: calendar, tables, day and balances that a call can work on; document 02, card 5,
+-- number 12: date limits that it can.
 use mathlib.Core.Bool.{Bool, true, not, _&&_, _||_}
 use mathlib.Core.List.{List, [], _∷_, _++_}
 use Prim.Native.Nat.{ℕ, suc}
@@ -6,6 +7,7 @@ use lib.Dec.{eqb, leb}
 use lib.ListN.{length}
 use Rattle.lists.specs.First.{Cause, cause}
 use Rattle.days.specs.Days.{calendarWords, badCalendar, isOpen, openAfter}
+use Rattle.securities.specs.Lent.{goodLimits}
 use Rattle.securities.specs.Securities.{tableWords, goodTables}
 use Rattle.book.specs.Book.{balanceWords, largestBalance, Position, position}
 
@@ -43,9 +45,18 @@ tableCauses calendar tables balances =
 unfoldable pub stateCauses : List ℕ → ℕ → List ℕ → List Cause
 stateCauses calendar day balances = cause 4 (badDay calendar day || badBalances balances) ∷ []
 
--- Numbers 1 to 4 of a transfer and a close; calendar, tables, book and balances are sound where none applies.
+-- Numbers 1 to 4 of a close; calendar, tables, book and balances are sound where none applies.
 unfoldable pub bookCauses : List ℕ → List ℕ → ℕ → List ℕ → List Cause
 bookCauses calendar tables day balances = tableCauses calendar tables balances ++ stateCauses calendar day balances
+
+-- Date limits of another length or that break a rule: number 12.
+unfoldable pub lentCauses : List ℕ → List Cause
+lentCauses limits = cause 12 (not (goodLimits limits)) ∷ []
+
+-- Numbers 1 to 3, 12 and 4 of a transfer that is lent limits: 12 comes after 3.
+unfoldable pub lentBookCauses : List ℕ → List ℕ → List ℕ → ℕ → List ℕ → List Cause
+lentBookCauses calendar tables limits day balances =
+    tableCauses calendar tables balances ++ (lentCauses limits ++ stateCauses calendar day balances)
 
 -- Opening can meet only 1 to 4, and for 4 only the day's causes.
 unfoldable pub openingCauses : List ℕ → List ℕ → List ℕ → ℕ → List Cause

@@ -93,7 +93,7 @@ transfers =
     ∷ []
 
 delay-rows-hold :
-    all (λ r. sameBytes (claimed (transferClaims weekdays (r .tables) (r .day) 9 (transferOf (r .message)) (messageTag (r .message)))) (r .claims)) transfers
+    all (λ r. sameBytes (claimed (transferClaims weekdays (r .tables) (r .limits) (r .day) 9 (transferOf (r .message)) (messageTag (r .message)))) (r .claims)) transfers
     ≡ true
 unfolding openedClaims tagLine blank sentIn sent sameBytes claimed delays failed claim paid transfers
 delay-rows-hold = refl

@@ -58,7 +58,7 @@ interim-timely last type day row g e = omega (arith, good-row last row g .due, i
 
 -- ---- the rows that a transfer claims
 
-module _ (tables : List ℕ) (day : ℕ) (t : Transfer) (tag : Tag) where
+module _ (tables limits : List ℕ) (day : ℕ) (t : Transfer) (tag : Tag) where
   abbrev rows : List Row
   rows = filledRows tables (t .security)
 
@@ -66,7 +66,7 @@ module _ (tables : List ℕ) (day : ℕ) (t : Transfer) (tag : Tag) where
   unfoldable pub isFailDue : Row → Bool
   isFailDue row =
       let type = typeOf (securityOf tables (t .security)) in
-      fails t tag && isKept type (maximumOf tables (t .security)) (contractDate tag) day (filledRows tables (t .security)) row
+      fails t tag && isKept type (maximumOf tables limits (t .security)) (contractDate tag) day (filledRows tables (t .security)) row
 
   -- a row that is claimed with tracking code 0, tag or no tag
   unfoldable pub isInterimDue : Row → Bool
@@ -83,10 +83,10 @@ module _ (tables : List ℕ) (day : ℕ) (t : Transfer) (tag : Tag) where
 
   -- the rows claimed are those of the table that are claimed for either reason, each once, in its order
   pub dues-rows : rising beneficiary (filledRows tables (t .security)) ≡ true
-      → map (λ d. d .row) (dues tables day t tag) ≡ select (λ row. isFailDue row || isInterimDue row) (filledRows tables (t .security))
+      → map (λ d. d .row) (dues tables limits day t tag) ≡ select (λ row. isFailDue row || isInterimDue row) (filledRows tables (t .security))
   unfolding dues eligible interim isFailDue isInterimDue
   dues-rows e =
-      map-append (λ (d : Due). d .row) (cond (fails t tag) (map (due failType) (eligible tables day t tag)) []) _
+      map-append (λ (d : Due). d .row) (cond (fails t tag) (map (due failType) (eligible tables limits day t tag)) []) _
       ∙ ap₂ (λ (xs ys : List Row). xs ++ ys)
       (of-part (fails t tag) failType _ _ (cut-is _ _ _ day rows e))
       (of-part (eqb (t .code) 0) interimType _ _ (interim-is _ day rows))
@@ -96,7 +96,7 @@ module _ (tables : List ℕ) (day : ℕ) (t : Transfer) (tag : Tag) where
 
   -- so what rises with the table's rows rises with the claimed ones: the Beneficiary Date, so none is claimed twice; the row number
   pub rising-dues : (key : Row → ℕ) → rising beneficiary (filledRows tables (t .security)) ≡ true → rising key (filledRows tables (t .security)) ≡ true
-      → rising key (map (λ d. d .row) (dues tables day t tag)) ≡ true
+      → rising key (map (λ d. d .row) (dues tables limits day t tag)) ≡ true
   rising-dues key e k = rw (dues-rows e) (rising-select key _ (filledRows tables (t .security)) k)
 
   -- ---- how many claims
@@ -107,8 +107,8 @@ module _ (tables : List ℕ) (day : ℕ) (t : Transfer) (tag : Tag) where
 
   -- no more than the security has rows
   pub few-transfer : (calendar : List ℕ) (number : ℕ) → rising beneficiary (filledRows tables (t .security)) ≡ true
-      → length (transferClaims calendar tables day number t tag) ≤ 16
+      → length (transferClaims calendar tables limits day number t tag) ≤ 16
   unfolding transferClaims
   few-transfer calendar number e =
       let claimed = select-within (λ (row : Row). isFailDue row || isInterimDue row) rows in
-      simp length-map (omega (arith, few-filled, claimed, ap length (dues-rows e), length-map (dues tables day t tag) (λ d. d .row)))
+      simp length-map (omega (arith, few-filled, claimed, ap length (dues-rows e), length-map (dues tables limits day t tag) (λ d. d .row)))

@@ -82,7 +82,7 @@ threeRowTransfers =
     ∷ []
 
 interim-rows-hold :
-    all (λ r. sameBytes (claimed (transferClaims weekdays (r .tables) (r .day) 9 (transferOf (r .message)) (messageTag (r .message)))) (r .claims))
+    all (λ r. sameBytes (claimed (transferClaims weekdays (r .tables) (r .limits) (r .day) 9 (transferOf (r .message)) (messageTag (r .message)))) (r .claims))
     (oneRowTransfers ++ threeRowTransfers) ≡ true
 unfolding openedClaims tagLine blank sentIn sent sameBytes claimed oneRow plain claim oneRowTransfers threeRows bothInterim threeRowTransfers
 interim-rows-hold = refl

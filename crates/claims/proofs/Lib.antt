@@ -8,6 +8,7 @@ pub mod Sizes
 pub mod Rows
 pub mod InterimRows
 pub mod DelayRows
+pub mod LimitRows
 pub mod RepoRows
 pub mod Making
 pub mod TableRows

@@ -226,25 +226,25 @@ module _ (calendar tables : List ℕ) (day number : ℕ) (t : Transfer) where
   abbrev pub claimed : ℕ → Row → Claim
   claimed claimType row = claimOn calendar tables day number (transferParties t) (t .par) claimType row
 
-  pub none-by-code : (tag : Tag) → (t .code ≡ 0 → ⊥) → transferClaims calendar tables day number t tag ≡ []
+  pub none-by-code : (limits : List ℕ) (tag : Tag) → (t .code ≡ 0 → ⊥) → transferClaims calendar tables limits day number t tag ≡ []
   unfolding transferClaims dues fails
-  none-by-code tag h = rw (ne-eqb (t .code) 0 h)
+  none-by-code limits tag h = rw (ne-eqb (t .code) 0 h)
 
   -- with tracking code 0: on the eligible rows where there is a tag, then on the interim rows
-  pub claims-by-rows : (tag : Tag) → t .code ≡ 0
-      → transferClaims calendar tables day number t tag
-      ≡ cond (tagged tag) (map (claimed failType) (eligible tables day t tag)) [] ++ map (claimed interimType) (interim tables day t)
+  pub claims-by-rows : (limits : List ℕ) (tag : Tag) → t .code ≡ 0
+      → transferClaims calendar tables limits day number t tag
+      ≡ cond (tagged tag) (map (claimed failType) (eligible tables limits day t tag)) [] ++ map (claimed interimType) (interim tables day t)
   unfolding transferClaims dues fails
-  claims-by-rows tag z =
+  claims-by-rows limits tag z =
       rw (eq-eqb (t .code) 0 z)
-      (map-append claim (cond (tagged tag) (map (due failType) (eligible tables day t tag)) []) _
+      (map-append claim (cond (tagged tag) (map (due failType) (eligible tables limits day t tag)) []) _
       ∙ ap₂ (λ (xs ys : List Claim). xs ++ ys) (go (tagged tag)) (map-map claim (due interimType) (interim tables day t)))
     where
       claim : Due → Claim
       claim d = claimed (d .claimType) (d .row)
 
-      go : (b : Bool) → map claim (cond b (map (due failType) (eligible tables day t tag)) []) ≡ cond b (map (claimed failType) (eligible tables day t tag)) []
-      go true = map-map claim (due failType) (eligible tables day t tag)
+      go : (b : Bool) → map claim (cond b (map (due failType) (eligible tables limits day t tag)) []) ≡ cond b (map (claimed failType) (eligible tables limits day t tag)) []
+      go true = map-map claim (due failType) (eligible tables limits day t tag)
       go false = refl
 
 -- ---- the cut by row numbers
@@ -337,14 +337,14 @@ module _ (calendar tables : List ℕ) (day : ℕ) (t : Transfer) where
         (lt-ltb (first + k) reachedNow (omega arith)))
 
     -- the eligible rows are those of the last ones that the number of the first that waits leaves
-    pub eligible-window : (tag : Tag)
-        → let first = reachedNow - maximumOf tables (t .security) in
+    pub eligible-window : (limits : List ℕ) (tag : Tag)
+        → let first = reachedNow - maximumOf tables limits (t .security) in
         let waiting = waitingRow tables (t .security) (contractDate tag) day first in
-        eligible tables day t tag ≡ select (isKeptBy (contractDate tag) waiting day) (take (reachedNow - first) (drop first rows))
+        eligible tables limits day t tag ≡ select (isKeptBy (contractDate tag) waiting day) (take (reachedNow - first) (drop first rows))
     unfolding eligible eligibleIn waitingRow waitingFrom
-    eligible-window tag =
+    eligible-window limits tag =
         let type = typeOf (securityOf tables (t .security)) in
-        let maximum = maximumOf tables (t .security) in
+        let maximum = maximumOf tables limits (t .security) in
         let first = reachedNow - maximum in
         let numbers : rising (λ row. row .index) (lastOf maximum (select (λ row. leb (row .beneficiaryDate) day) (filledRows tables (t .security)))) ≡ true
         = rising-last _ maximum _ (rising-select _ _ _ (rising-numbers tables (t .security))) in

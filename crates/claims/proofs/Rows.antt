@@ -78,12 +78,17 @@ balances =
 
 pub record TransferRow : Type 0 where
   pub tables : List ℕ
+  pub limits : List ℕ
   pub day : ℕ
   pub message : List ℕ
   pub claims : List ℕ
 
+-- with the limits that it is lent, and with the published numbers
+abbrev pub lentRow : List ℕ → List ℕ → ℕ → List ℕ → List ℕ → TransferRow
+lentRow t l d m c = record { tables = t; limits = l; day = d; message = m; claims = c }
+
 abbrev pub row : List ℕ → ℕ → List ℕ → List ℕ → TransferRow
-row t d m c = record { tables = t; day = d; message = m; claims = c }
+row t d m c = lentRow t maximumNumbers d m c
 
 -- the seven most recent of eight dates; those after the Contract Date; none with a loan code or without a tag; final, masked and
 -- half a cent
@@ -209,14 +214,14 @@ apartCloses =
 -- ---- the theorems
 
 rows-hold :
-    all (λ r. sameBytes (bytesOfAll (transferClaims weekdays (r .tables) (r .day) 9 (transferOf (r .message)) (messageTag (r .message)))) (r .claims)) transfers
+    all (λ r. sameBytes (bytesOfAll (transferClaims weekdays (r .tables) (r .limits) (r .day) 9 (transferOf (r .message)) (messageTag (r .message)))) (r .claims)) transfers
     && all (λ r. sameBytes (bytesOfAll (closeClaims weekdays (r .tables) (r .day) balances)) (r .claims)) closes
     && maxima ≡ true
 unfolding openedClaims tagLine blank sentIn sent sameBytes manyTables balances transfers closes maximaOf maxima
 rows-hold = refl
 
 apart-rows-hold :
-    all (λ r. sameBytes (claimed (transferClaims weekdays (r .tables) (r .day) 9 (transferOf (r .message)) (messageTag (r .message)))) (r .claims)) apartTransfers
+    all (λ r. sameBytes (claimed (transferClaims weekdays (r .tables) (r .limits) (r .day) 9 (transferOf (r .message)) (messageTag (r .message)))) (r .claims)) apartTransfers
     && all (λ r. sameBytes (claimed (closeClaims weekdays (r .tables) (r .day) loans)) (r .claims)) apartCloses ≡ true
 unfolding openedClaims tagLine blank sentIn sent sameBytes apartTables loans claimed apartTransfers apartCloses
 apart-rows-hold = refl

@@ -122,10 +122,10 @@ module _ (calendar tables : List ℕ) (kept : Kept calendar) where
   )
 
   -- rows selected from sound ones fit
-  fit-eligible : (day : ℕ) (t : Transfer) (tag : Tag) → Sound (lastOpen calendar) (filledRows tables (t .security))
-      → all (rowFits (lastOpen calendar)) (eligible tables day t tag) ≡ true
+  fit-eligible : (limits : List ℕ) (day : ℕ) (t : Transfer) (tag : Tag) → Sound (lastOpen calendar) (filledRows tables (t .security))
+      → all (rowFits (lastOpen calendar)) (eligible tables limits day t tag) ≡ true
   unfolding eligible eligibleIn cut
-  fit-eligible day t tag s =
+  fit-eligible limits day t tag s =
       go (isMbs (typeOf (securityOf tables (t .security)))) _
       (all-select _ _ _ (all-last _ _ _ (all-select _ _ _ (sound-fit (lastOpen calendar) (filledRows tables (t .security)) s))))
     where
@@ -143,15 +143,15 @@ module _ (calendar tables : List ℕ) (kept : Kept calendar) where
       go true = all-select _ _ _ (sound-fit (lastOpen calendar) (filledRows tables (t .security)) s)
       go false = unfold all in refl
 
-  pub fit-transfer : (day n : ℕ) (t : Transfer) (tag : Tag) → n < 4294967296 → SmallParties (transferParties t) → t .par ≤ 9000000000
-      → Sound (lastOpen calendar) (filledRows tables (t .security)) → AllFit (transferClaims calendar tables day n t tag)
+  pub fit-transfer : (limits : List ℕ) (day n : ℕ) (t : Transfer) (tag : Tag) → n < 4294967296 → SmallParties (transferParties t) → t .par ≤ 9000000000
+      → Sound (lastOpen calendar) (filledRows tables (t .security)) → AllFit (transferClaims calendar tables limits day n t tag)
   unfolding transferClaims dues
-  fit-transfer day n t tag b r c s =
-      let failed = cond (fails t tag) (map (due failType) (eligible tables day t tag)) [] in
+  fit-transfer limits day n t tag b r c s =
+      let failed = cond (fails t tag) (map (due failType) (eligible tables limits day t tag)) [] in
       let between = cond (eqb (t .code) 0) (map (due interimType) (interim tables day t)) [] in
       rw (map-append claim failed between)
       (all-fit-append (map claim failed) (map claim between)
-      (go (fails t tag) failType (eligible tables day t tag) (omega arith) (fit-eligible day t tag s))
+      (go (fails t tag) failType (eligible tables limits day t tag) (omega arith) (fit-eligible limits day t tag s))
       (go (eqb (t .code) 0) interimType (interim tables day t) (omega arith) (fit-interim day t s)))
     where
       claim : Due → Claim

@@ -1,5 +1,5 @@
--- Document 01, section Fail claims, and document 02, card 1, interim claims, and card 2, long-delay pools: the rows that a transfer
--- claims. S is the book's day, C the Contract Date.
+-- Document 01, section Fail claims, and document 02, card 1, interim claims, card 2, long-delay pools, and card 5, date limits: the rows
+-- that a transfer claims. S is the book's day, C the Contract Date.
 use mathlib.Core.Bool.{Bool, cond, _&&_}
 use mathlib.Core.List.{List, [], _∷_, _++_, map}
 use Prim.Native.Nat.{ℕ}
@@ -28,15 +28,15 @@ maximumNumbers = 7 ∷ 6 ∷ 3 ∷ 2 ∷ 1 ∷ []
 unfoldable pub isMbs : ℕ → Bool
 isMbs type = leb 3 type
 
--- The maximum number for a type and a frequency.
+-- Of such numbers the one for a type and a frequency.
 unfoldable pub maximumFor : List ℕ → ℕ → ℕ → ℕ
 maximumFor numbers type frequency = cond (isMbs type) (getD numbers 0 0) (getD numbers frequency 0)
 
--- The published maximum number of a security.
-unfoldable pub maximumOf : List ℕ → ℕ → ℕ
-maximumOf tables s =
+-- The maximum number of a security by the date limits that the transfer is lent.
+unfoldable pub maximumOf : List ℕ → List ℕ → ℕ → ℕ
+maximumOf tables limits s =
     let words = securityOf tables s in
-    maximumFor maximumNumbers (typeOf words) (frequencyOf words)
+    maximumFor limits (typeOf words) (frequencyOf words)
 
 -- Document 01's eligible rows, before the cut: of the rows with Beneficiary Date on or before the day, the most recent up to a maximum
 -- number; of these, each with a Beneficiary Date after the Contract Date, in table order.
@@ -53,10 +53,10 @@ unfoldable pub cut : ℕ → ℕ → List Row → List Row
 cut type day rows = cond (isMbs type) (keepFirst (waits day) rows) rows
 
 -- The eligible rows of a transfer's security, for its tag.
-unfoldable pub eligible : List ℕ → ℕ → Transfer → Tag → List Row
-eligible tables day t tag =
+unfoldable pub eligible : List ℕ → List ℕ → ℕ → Transfer → Tag → List Row
+eligible tables limits day t tag =
     cut (typeOf (securityOf tables (t .security))) day
-    (eligibleIn (maximumOf tables (t .security)) (contractDate tag) day (filledRows tables (t .security)))
+    (eligibleIn (maximumOf tables limits (t .security)) (contractDate tag) day (filledRows tables (t .security)))
 
 -- ---- interim rows
 
@@ -88,9 +88,9 @@ fails t tag = eqb (t .code) 0 && tagged tag
 
 -- What a transfer claims: failed, its eligible rows; with tracking code 0, tag or no tag, its interim rows behind them. This is table
 -- order, since a Beneficiary Date on or before the day stands before those after it.
-unfoldable pub dues : List ℕ → ℕ → Transfer → Tag → List Due
-dues tables day t tag =
-    cond (fails t tag) (map (due failType) (eligible tables day t tag)) []
+unfoldable pub dues : List ℕ → List ℕ → ℕ → Transfer → Tag → List Due
+dues tables limits day t tag =
+    cond (fails t tag) (map (due failType) (eligible tables limits day t tag)) []
     ++ cond (eqb (t .code) 0) (map (due interimType) (interim tables day t)) []
 
 -- Payer is the sender, payee the receiver.
@@ -98,6 +98,6 @@ unfoldable pub transferParties : Transfer → Parties
 transferParties t = record { security = t .security; payee = t .receiver; payer = t .sender }
 
 -- The claims of the transfer with a number, on its own par.
-unfoldable pub transferClaims : List ℕ → List ℕ → ℕ → ℕ → Transfer → Tag → List Claim
-transferClaims calendar tables day number t tag =
-    map (λ d. claimOn calendar tables day number (transferParties t) (t .par) (d .claimType) (d .row)) (dues tables day t tag)
+unfoldable pub transferClaims : List ℕ → List ℕ → List ℕ → ℕ → ℕ → Transfer → Tag → List Claim
+transferClaims calendar tables limits day number t tag =
+    map (λ d. claimOn calendar tables day number (transferParties t) (t .par) (d .claimType) (d .row)) (dues tables limits day t tag)

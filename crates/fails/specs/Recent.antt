@@ -22,18 +22,18 @@ unfoldable pub noRows : Recent
 noRows = record { after = 0; first = 0; reached = 0; end = 0; waiting = 0 }
 
 -- The first row that a transfer may claim as failed: of those that the day has reached by Beneficiary Date the most recent count, up to
--- the published maximum number; without a tag none does.
-unfoldable pub firstRow : List ℕ → ℕ → Transfer → Tag → ℕ
-firstRow tables day t tag =
+-- the maximum number of the limits lent; without a tag none does.
+unfoldable pub firstRow : List ℕ → List ℕ → ℕ → Transfer → Tag → ℕ
+firstRow tables limits day t tag =
     let reached = reachedRows tables (t .security) day in
-    cond (tagged tag) (reached - maximumOf tables (t .security)) reached
+    cond (tagged tag) (reached - maximumOf tables limits (t .security)) reached
 
 -- The rows of a transfer, with the Contract Date.
-unfoldable pub recentRows : List ℕ → ℕ → Transfer → Tag → Recent
-recentRows tables day t tag =
+unfoldable pub recentRows : List ℕ → List ℕ → ℕ → Transfer → Tag → Recent
+recentRows tables limits day t tag =
     let s = t .security in
     let contract = contractDate tag in
-    let first = firstRow tables day t tag in
+    let first = firstRow tables limits day t tag in
     cond (eqb (t .code) 0)
     (record {
       after = contract;

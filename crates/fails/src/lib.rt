@@ -1,15 +1,15 @@
-// The claims of a transfer (document 01, section Fail claims; document 02, card 1, interim claims, and card 2, long-delay pools). Failed:
-// the most recent rows that the day has reached by Beneficiary Date, up to the published maximum number, and of these each with a
-// Beneficiary Date after the Contract Date; MBS leaves out those that wait for their Payment Date behind the first that does. Interim: the
-// rows behind them that it has reached by Record Date. Tables keep their rules, so filled rows come first and both dates rise. A pass with
-// write false counts the claims, one with write true stores them too.
+// The claims of a transfer (document 01, section Fail claims; document 02, card 1, interim claims, card 2, long-delay pools, and card 5,
+// date limits). Failed: the most recent rows that the day has reached by Beneficiary Date, up to the maximum number of the limits lent, and
+// of these each with a Beneficiary Date after the Contract Date; MBS leaves out those that wait for their Payment Date behind the first
+// that does. Interim: the rows behind them that it has reached by Record Date. Tables keep their rules, so filled rows come first and both
+// dates rise. A pass with write false counts the claims, one with write true stores them too.
 ghost use mathlib.Core.Path.{_≡_};
 ghost use mathlib.Core.Bool.{_&&_};
 ghost use Prim.Native.Nat.{_+_, _-_, _≤_, _<_};
 ghost use lib.Dec.{ltb};
 ghost use lib.ListN.{length};
 ghost use Rattle.securities.specs.Securities.{securityOf, frequencyOf, rowOf};
-ghost use Rattle.claims.specs.Fails.{maximumNumbers, isMbs, maximumFor};
+ghost use Rattle.claims.specs.Fails.{isMbs, maximumFor};
 ghost use Rattle.claims.specs.Passes.{Free, Passed};
 ghost use Rattle.claims.specs.Reached.{rowAt, reachedFrom, reachedRows, interimEnd, waitingRow, Claiming};
 ghost use Rattle.fails.specs.Recent.{noRows, recentRows, dueType, dueClaim, recentClaims};
@@ -38,8 +38,8 @@ const PAYMENT_DATE: usize = 2;
 // The claim type of a row that is not claimed.
 const NONE: u8 = 0;
 
-// The published maximum numbers of Beneficiary Dates: MBS, then monthly, quarterly, semiannual, annual.
-const MAXIMUM_NUMBERS: [u8; 5] = [7, 6, 3, 2, 1];
+// The place of the date limit of MBS; that of another type is its frequency.
+const MBS: usize = 0;
 
 // Whether a type is MBS.
 fn is_mbs(security_type: u32) -> bool
@@ -48,15 +48,15 @@ fn is_mbs(security_type: u32) -> bool
     3 <= security_type
 }
 
-// The maximum number for a type and a frequency.
-fn maximum_for(security_type: u32, frequency: u32) -> u8
-    requires { ⌜ frequency ≤ 4 ⌝ }
-    ensures { λ r. ⌜ r ≡ maximumFor maximumNumbers «security_type» frequency ⌝ }
+// Of date limits the maximum number for a type and a frequency.
+fn maximum_for(limits: &[u32], security_type: u32, frequency: u32) -> u32
+    requires { ⌜ (length (now limits) ≡ 5) × (frequency ≤ 4) ⌝ }
+    ensures { λ r. ⌜ r ≡ maximumFor (now (limits .entry)) «security_type» frequency ⌝ }
 {
     if is_mbs(security_type) {
-        return MAXIMUM_NUMBERS[0];
+        return limits[MBS];
     }
-    MAXIMUM_NUMBERS[frequency as usize]
+    limits[frequency as usize]
 }
 
 // The row behind those of a security, from a first one on, that the day has reached by the date in a word of the row.
@@ -125,13 +125,14 @@ fn waiting_row(tables: &[u32], security: u8, contract: u32, day: u32, first: u8,
 }
 
 // The first of the last rows, up to a maximum number, of n.
-fn first_of_last(n: u8, maximum: u8) -> u8
+fn first_of_last(n: u8, maximum: u32) -> u8
     ensures { λ r. ⌜ r ≡ n - maximum ⌝ }
 {
-    if n < maximum {
+    let all = n as u32;
+    if all < maximum {
         return 0;
     }
-    n - maximum
+    (all - maximum) as u8
 }
 
 // No rows: the tracking code is not 0.
@@ -148,9 +149,9 @@ fn no_rows() -> Recent
 }
 
 // The rows on which a transfer claims, found once for both passes.
-pub fn recent_rows(tables: &[u32], day: u32, t: Transfer, tag: Tag) -> Recent
-    requires { ⌜ (length (now tables) ≡ 1824) × (t .security < 16) × (frequencyOf (securityOf (now tables) (t .security)) ≤ 4) ⌝ }
-    ensures { λ r. ⌜ r ≡ recentRows (now (tables .entry)) day t tag ⌝ }
+pub fn recent_rows(tables: &[u32], limits: &[u32], day: u32, t: Transfer, tag: Tag) -> Recent
+    requires { ⌜ (length (now tables) ≡ 1824) × (length (now limits) ≡ 5) × (t .security < 16) × (frequencyOf (securityOf (now tables) (t .security)) ≤ 4) ⌝ }
+    ensures { λ r. ⌜ r ≡ recentRows (now (tables .entry)) (now (limits .entry)) day t tag ⌝ }
 {
     if t.code != 0 {
         return no_rows();
@@ -168,6 +169,7 @@ pub fn recent_rows(tables: &[u32], day: u32, t: Transfer, tag: Tag) -> Recent
     };
     let s = t.security as usize;
     let maximum = maximum_for(
+        limits,
         securities::security_type(tables, s),
         securities::frequency(tables, s),
     );

@@ -15,9 +15,9 @@ use Rattle.tags.specs.ContractDateTag.{editCauses}
 use Rattle.book.specs.declared.Book.{Book}
 use Rattle.book.specs.Book.{InRange}
 use Rattle.book.specs.Loans.{stepOf, Change, unchanged, increase, decrease, increasing, decreasing, bySender, byReceiver, changeOf, aboveBalance, loanCauses}
-use Rattle.book.specs.Soundness.{tableCauses, stateCauses, bookCauses, openingCauses}
+use Rattle.book.specs.Soundness.{tableCauses, stateCauses, bookCauses, lentCauses, lentBookCauses, openingCauses}
 use Rattle.book.proofs.Posted.{tracking-range}
-use Rattle.book.proofs.Judged.{SoundBook, sound-book, SoundOpening, sound-opening, numbered-opening}
+use Rattle.book.proofs.Judged.{SoundBook, sound-book, lent-none, SoundOpening, sound-opening, numbered-opening}
 use Rattle.history.specs.Calls.{Arguments, TransferArguments, Call, transfer, close, claimsOf}
 use Rattle.history.specs.Causes.{recordCauses, outOfRange, fieldCauses, countCauses, lastDayCauses, roomCauses, transferCauses, callCauses, soundCauses, causes, numberFor, openingNumber}
 
@@ -25,7 +25,7 @@ use Rattle.history.specs.Causes.{recordCauses, outOfRange, fieldCauses, 
 
 pub numbered-causes : (calendar tables : List ℕ) (book : Book) (balances : List ℕ) (call : Call)
     → numbered (causes calendar tables book balances call) ≡ true
-unfolding numbered causes callCauses transferCauses soundCauses bookCauses tableCauses stateCauses recordCauses fieldCauses editCauses countCauses loanCauses lastDayCauses roomCauses
+unfolding numbered causes callCauses transferCauses soundCauses bookCauses lentBookCauses tableCauses lentCauses stateCauses recordCauses fieldCauses editCauses countCauses loanCauses lastDayCauses roomCauses
 numbered-causes calendar tables book balances (transfer a) = refl
 numbered-causes calendar tables book balances (close a) = refl
 
@@ -43,8 +43,8 @@ none-of calendar tables book balances call e = accepted-iff calendar tables book
 -- where none of the causes before 5 applies, numbers 1 to 4 do not
 pub sound-book-call : (calendar tables : List ℕ) (day : ℕ) (balances : List ℕ) (call : Call)
     → NoneApplies (soundCauses calendar tables day balances call) → NoneApplies (bookCauses calendar tables day balances)
-unfolding soundCauses bookCauses tableCauses stateCauses
-sound-book-call calendar tables day balances (transfer a) n = n
+unfolding soundCauses
+sound-book-call calendar tables day balances (transfer a) n = lent-none calendar tables (a .limits) day balances n
 sound-book-call calendar tables day balances (close a) n = n
 
 -- ---- the fields of an accepted transfer
@@ -105,7 +105,7 @@ pub record Taken (calendar tables : List ℕ) (book : Book) (balances : List ℕ
 
 pub taken : (calendar tables : List ℕ) (book : Book) (balances : List ℕ) (a : TransferArguments)
     → numberFor calendar tables book balances (transfer a) ≡ 0 → Taken calendar tables book balances a
-unfolding causes callCauses transferCauses soundCauses bookCauses tableCauses stateCauses recordCauses fieldCauses editCauses countCauses loanCauses roomCauses appliesAt
+unfolding causes callCauses transferCauses soundCauses bookCauses lentBookCauses tableCauses lentCauses stateCauses recordCauses fieldCauses editCauses countCauses loanCauses roomCauses appliesAt
 taken calendar tables book balances a e =
     let cs = causes calendar tables book balances (transfer a) in
     let k = none-of calendar tables book balances (transfer a) e in
@@ -128,7 +128,7 @@ pub record Closed (calendar tables : List ℕ) (book : Book) (balances : List �
 
 pub closed : (calendar tables : List ℕ) (book : Book) (balances : List ℕ) (a : Arguments)
     → numberFor calendar tables book balances (close a) ≡ 0 → Closed calendar tables book balances a
-unfolding causes callCauses transferCauses soundCauses bookCauses tableCauses stateCauses recordCauses lastDayCauses roomCauses appliesAt
+unfolding causes callCauses transferCauses soundCauses bookCauses lentBookCauses tableCauses lentCauses stateCauses recordCauses lastDayCauses roomCauses appliesAt
 closed calendar tables book balances a e =
     let cs = causes calendar tables book balances (close a) in
     let k = none-of calendar tables book balances (close a) e in

@@ -10,7 +10,7 @@ use Rattle.days.specs.Days.{firstDate}
 use Rattle.claims.specs.Written.{written}
 use Rattle.book.specs.declared.Book.{Book}
 use Rattle.book.specs.Soundness.{openingCauses}
-use Rattle.book.proofs.Judged.{numbered-book}
+use Rattle.book.proofs.Judged.{numbered-book, numbered-lent}
 use Rattle.history.specs.Calls.{Call, transfer, close, bufferOf, claimsOf}
 use Rattle.history.specs.Causes.{callCauses, soundCauses, causes, numberFor, openingNumber}
 use Rattle.history.specs.Results.{nextBook, nextBalances, resultFor, left, result, leftOpen, openedFor, opened}
@@ -20,7 +20,7 @@ module _ (calendar tables : List ℕ) (book : Book) (balances : List ℕ) (call 
 
   numbered-sound : (c : Call) → numbered (soundCauses calendar tables (book .day) balances c) ≡ true
   unfolding soundCauses
-  numbered-sound (transfer a) = numbered-book calendar tables (book .day) balances
+  numbered-sound (transfer a) = numbered-lent calendar tables (a .limits) (book .day) balances
   numbered-sound (close a) = numbered-book calendar tables (book .day) balances
 
   -- a number of the causes before 5

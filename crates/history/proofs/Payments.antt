@@ -151,20 +151,20 @@ module _ (calendar tables : List ℕ) (part : Part) (claimTest : ℕ → ℕ →
   pays-part false day n y par claimType rows = pays-none
 
   -- a transfer pays its eligible rows if it is failed and its interim rows if its code is 0, from its sender to its receiver
-  pub pays-transfer : (day n : ℕ) (m : List ℕ)
-      → pays (transferClaims calendar tables day n (transferOf m) (messageTag m))
-      ≡ cond (isFailed m x) (amounts part (claimTest failType) (transferOf m .par) (eligible tables day (transferOf m) (messageTag m))) 0
+  pub pays-transfer : (limits : List ℕ) (day n : ℕ) (m : List ℕ)
+      → pays (transferClaims calendar tables limits day n (transferOf m) (messageTag m))
+      ≡ cond (isFailed m x) (amounts part (claimTest failType) (transferOf m .par) (eligible tables limits day (transferOf m) (messageTag m))) 0
       + cond (isSent m x) (amounts part (claimTest interimType) (transferOf m .par) (interim tables day (transferOf m))) 0
   unfolding transferClaims dues
-  pays-transfer day n m =
+  pays-transfer limits day n m =
       let t = transferOf m in
-      let failed = cond (fails t (messageTag m)) (map (due failType) (eligible tables day t (messageTag m))) [] in
+      let failed = cond (fails t (messageTag m)) (map (due failType) (eligible tables limits day t (messageTag m))) [] in
       let between-dates = cond (eqb (t .code) 0) (map (due interimType) (interim tables day t)) [] in
       ap pays (map-append claim failed between-dates)
       ∙ sum-append pays-by (map claim failed) (map claim between-dates)
       ∙ rw (failed-test m x, sent-test m x)
       (ap₂ (λ (a b : ℕ). a + b)
-      (pays-part (fails t (messageTag m)) day n (transferParties t) (t .par) failType (eligible tables day t (messageTag m)))
+      (pays-part (fails t (messageTag m)) day n (transferParties t) (t .par) failType (eligible tables limits day t (messageTag m)))
       (pays-part (eqb (t .code) 0) day n (transferParties t) (t .par) interimType (interim tables day t)))
     where
       claim : Due → Claim

@@ -47,7 +47,7 @@ module _ (calendar tables : List ℕ) where
       let t = transferOf (a .message) in
       let f = k .fields in
       let s = k .sound .tables-sound in
-      fit-transfer calendar tables (kept s) (book .day) (book .count + 1) t (messageTag (a .message)) (omega (arith, k .count))
+      fit-transfer calendar tables (kept s) (a .limits) (book .day) (book .count + 1) t (messageTag (a .message)) (omega (arith, k .count))
       (record { security = f .security; payee = f .receiver; payer = f .sender }) (omega (arith, f .par))
       (sound-rows calendar tables (t .security) (s .table-rules) (f .security))
   fit-claims book balances (close a) e =
@@ -126,7 +126,7 @@ module _ (calendar tables : List ℕ) where
         → pays calendar tables part claimTest x (claimsOf calendar tables (bookOf t) (balancesOf t) call)
         ≡ owedBy calendar tables part claimTest (t .entries) (t .day) call x
     unfolding claimsOf owedBy bookOf balancesOf
-    pays-call t (transfer a) h = pays-transfer calendar tables part claimTest x (t .day) _ (a .message)
+    pays-call t (transfer a) h = pays-transfer calendar tables part claimTest x (a .limits) (t .day) _ (a .message)
     pays-call t (close a) h = go (accounts x)
       where
         rows : List Row
@@ -240,11 +240,11 @@ module _ (calendar tables : List ℕ) where
         row-payments = λ part x row. rw (f .answers) (paid-from part (ofRow row) x day calls);
         payments = λ part x. rw (f .answers) (paid-from part ofAll x day calls);
         crossed-once = λ row. passed calendar tables day row calls (started day) (passed-started calendar tables day row) .crossed-once;
-        dates-once = λ d tag h.
+        dates-once = λ limits d tag h.
             let b = sound-rows calendar tables (d .security) sound h .beneficiaries in
-            rising-dues tables (t .day) d tag (λ row. row .beneficiaryDate) b b;
-        row-order = λ d tag h.
-            rising-dues tables (t .day) d tag (λ row. row .index) (sound-rows calendar tables (d .security) sound h .beneficiaries)
+            rising-dues tables limits (t .day) d tag (λ row. row .beneficiaryDate) b b;
+        row-order = λ limits d tag h.
+            rising-dues tables limits (t .day) d tag (λ row. row .index) (sound-rows calendar tables (d .security) sound h .beneficiaries)
             (rising-numbers tables (d .security));
         rows-once = λ s h. rising-crossed calendar tables (t .day) s (sound-rows calendar tables s sound h .records);
         accepted = λ call. accepted-iff calendar tables (bookOf t) (balancesOf t) call;

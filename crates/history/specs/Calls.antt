@@ -32,5 +32,6 @@ bufferOf (close a) = a .buffer
 
 -- The claims of a call on a book and balances. Accepted transfers of every code are numbered from 1.
 unfoldable pub claimsOf : List ℕ → List ℕ → Book → List ℕ → Call → List Claim
-claimsOf calendar tables book balances (transfer a) = transferClaims calendar tables (book .day) (book .count + 1) (transferOf (a .message)) (messageTag (a .message))
+claimsOf calendar tables book balances (transfer a) =
+    transferClaims calendar tables (a .limits) (book .day) (book .count + 1) (transferOf (a .message)) (messageTag (a .message))
 claimsOf calendar tables book balances (close a) = closeClaims calendar tables (book .day) balances

@@ -1,4 +1,5 @@
--- Document 01, section What can be refused: the causes of each call in the paper's order, in groups, and the number of the first.
+-- Document 01, section What can be refused, and document 02, card 5: the causes of each call in the papers' order, in groups, and the
+-- number of the first.
 use mathlib.Core.Bool.{Bool, not, _||_}
 use mathlib.Core.List.{List, [], _∷_, _++_}
 use Prim.Native.Nat.{ℕ, _*_}
@@ -16,7 +17,7 @@ use Rattle.claims.specs.Fails.{messageTag}
 use Rattle.claims.specs.Written.{claimSize}
 use Rattle.book.specs.declared.Book.{Book}
 use Rattle.book.specs.Loans.{loanCauses}
-use Rattle.book.specs.Soundness.{bookCauses, openingCauses}
+use Rattle.book.specs.Soundness.{bookCauses, lentBookCauses, openingCauses}
 use Rattle.history.specs.Calls.{Call, transfer, close, claimsOf}
 
 -- The record is cut short, or its length or kind is wrong for the call: number 5.
@@ -61,7 +62,7 @@ transferCauses tables book balances t tag =
     ++ (countCauses (book .count)
     ++ loanCauses balances t))
 
--- Those behind numbers 1 to 4.
+-- Those behind the causes of what it is lent.
 unfoldable pub callCauses : List ℕ → List ℕ → Book → List ℕ → Call → List Cause
 callCauses calendar tables book balances (transfer a) =
     recordCauses transferKind (a .message)
@@ -72,9 +73,9 @@ callCauses calendar tables book balances (close a) =
     ++ (lastDayCauses calendar (book .day)
     ++ roomCauses (claimsOf calendar tables book balances (close a)) (a .buffer))
 
--- Numbers 1 to 4: what the call is lent is sound where none applies.
+-- Numbers 1 to 4, for a transfer with 12 after 3: what the call is lent is sound where none applies.
 unfoldable pub soundCauses : List ℕ → List ℕ → ℕ → List ℕ → Call → List Cause
-soundCauses calendar tables day balances (transfer a) = bookCauses calendar tables day balances
+soundCauses calendar tables day balances (transfer a) = lentBookCauses calendar tables (a .limits) day balances
 soundCauses calendar tables day balances (close a) = bookCauses calendar tables day balances
 
 unfoldable pub causes : List ℕ → List ℕ → Book → List ℕ → Call → List Cause

@@ -139,12 +139,12 @@ pub record AgreesWithLedger (calendar tables : List ℕ) (start : ℕ) (calls : 
   pub payments : (part : Part) (x : Parties)
       → paid part ofAll (recordsIn (r .answers)) x ≡ owed calendar tables part ofAll (j .ledger .entries) x
   pub crossed-once : (row : Row) → CrossedOnce calendar start (j .ledger) row
-  -- The rows that the next transfer claims, failed or interim, rise in Beneficiary Date, so none is claimed twice.
-  pub dates-once : (t : Transfer) (tag : Tag) → t .security < 16
-      → rising (λ row. row .beneficiaryDate) (map (λ d. d .row) (dues tables (j .ledger .day) t tag)) ≡ true
+  -- The rows that the next transfer claims, failed or interim, with whatever limits it is lent, rise in Beneficiary Date, so none is claimed twice.
+  pub dates-once : (limits : List ℕ) (t : Transfer) (tag : Tag) → t .security < 16
+      → rising (λ row. row .beneficiaryDate) (map (λ d. d .row) (dues tables limits (j .ledger .day) t tag)) ≡ true
   -- They rise in row number too: a transfer's claims come in row order.
-  pub row-order : (t : Transfer) (tag : Tag) → t .security < 16
-      → rising (λ row. row .index) (map (λ d. d .row) (dues tables (j .ledger .day) t tag)) ≡ true
+  pub row-order : (limits : List ℕ) (t : Transfer) (tag : Tag) → t .security < 16
+      → rising (λ row. row .index) (map (λ d. d .row) (dues tables limits (j .ledger .day) t tag)) ≡ true
   -- The rows that the next close crosses rise in Record Date, so none is claimed twice in it.
   pub rows-once : (s : ℕ) → s < 16 → rising (λ row. row .recordDate) (crossed calendar tables (j .ledger .day) s) ≡ true
   -- The next call is accepted exactly when no cause of its table applies; refused, it leaves the ledger as it was.

@@ -1,12 +1,13 @@
-// Judges calendar, tables, a book's day and its balances (document 01, section The book), with the numbers 1 to 4 of what can be refused.
-// Calendar, tables and balances are taken in any length where a function gives number 1.
+// Judges calendar, tables, a book's day and its balances (document 01, section The book), with the numbers 1 to 4 of what can be refused,
+// and date limits (document 02, card 5), with number 12. Calendar, tables, balances and limits are taken in any length where a function
+// gives the number for it.
 ghost use mathlib.Core.Path.{_≡_};
 ghost use mathlib.Core.Bool.{true};
 ghost use lib.ListN.{length};
 ghost use Rattle.lists.specs.First.{firstOf};
 ghost use Rattle.lists.specs.Sums.{sum};
 ghost use Rattle.book.specs.Book.{position};
-ghost use Rattle.book.specs.Soundness.{badDay, goodBalance, badBalances, tableCauses, stateCauses, bookCauses, openingCauses};
+ghost use Rattle.book.specs.Soundness.{badDay, goodBalance, badBalances, tableCauses, stateCauses, bookCauses, lentBookCauses, openingCauses};
 ghost use Rattle.judging.specs.Quick.{excessOf, ownPars};
 use days::Day;
 
@@ -139,13 +140,33 @@ fn state_number(calendar: &[u32], day: u32, balances: &[u64]) -> u16
     0
 }
 
-// The first of the numbers 1 to 4 that a transfer or a close meets, 0 where it meets none.
+// The first of the numbers 1 to 4 that a close meets, 0 where it meets none.
 pub fn book_number(calendar: &[u32], tables: &[u32], day: u32, balances: &[u64]) -> u16
     ensures { λ r. ⌜ r ≡ firstOf (bookCauses (now (calendar .entry)) (now (tables .entry)) day (now (balances .entry))) ⌝ }
 {
     let number = table_number(calendar, tables, balances);
     if number != 0 {
         return number;
+    }
+    state_number(calendar, day, balances)
+}
+
+// The first of the numbers 1, 2, 3, 12 and 4 that a transfer meets, 0 where it meets none.
+pub fn transfer_number(
+    calendar: &[u32],
+    tables: &[u32],
+    limits: &[u32],
+    day: u32,
+    balances: &[u64],
+) -> u16
+    ensures { λ r. ⌜ r ≡ firstOf (lentBookCauses (now (calendar .entry)) (now (tables .entry)) (now (limits .entry)) day (now (balances .entry))) ⌝ }
+{
+    let number = table_number(calendar, tables, balances);
+    if number != 0 {
+        return number;
+    }
+    if !securities::good_limits(limits) {
+        return 12;
     }
     state_number(calendar, day, balances)
 }

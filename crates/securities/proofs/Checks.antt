@@ -9,7 +9,7 @@ use native.Mathlib.Omega.{arith}
 use lib.Dec.{eqb, ltb, leb}
 use lib.ListN.{length, getD, take, drop, length-drop, length-take}
 use lib.Seq.{take-all, drop-drop, getD-take, getD-drop}
-use borrow.Author.Tests.{le-leb, lt-ltb, eq-eqb, ne-eqb}
+use borrow.Author.Tests.{le-leb, lt-ltb, ne-eqb}
 use Rattle.lists.specs.Tests.{below, cond-true, cond-false}
 use Rattle.lists.specs.All.{all, all-end, all-stop, all-go}
 use Rattle.days.specs.Days.{isDate, lastOpen}
@@ -32,24 +32,24 @@ and-true : (a : Bool) → a && true ≡ a
 and-true true = refl
 and-true false = refl
 
--- ---- words of zeros
+-- ---- a test of every word, as a loop goes
 
-pub record Zeros (words : List ℕ) (i : ℕ) : Type 0 where
+pub record Tested (p : ℕ → Bool) (words : List ℕ) (i : ℕ) : Type 0 where
   pub small : i ≤ length words
-  pub rest : all (λ w. eqb w 0) words ≡ all (λ w. eqb w 0) (drop i words)
+  pub rest : all p words ≡ all p (drop i words)
 
-pub zeros-start : (words : List ℕ) → Zeros words 0
-zeros-start words = record { small = omega arith; rest = refl }
+module _ (p : ℕ → Bool) where
+  pub tested-start : (words : List ℕ) → Tested p words 0
+  tested-start words = record { small = omega arith; rest = refl }
 
-pub zeros-step : {words : List ℕ} {i : ℕ} → i < length words → getD words i 0 ≡ 0 → Zeros words i → Zeros words (i + 1)
-zeros-step {words} {i} h e k =
-    record { small = omega arith; rest = k .rest ∙ all-go (λ w. eqb w 0) words i 0 h (eq-eqb (getD words i 0) 0 e) }
+  pub tested-step : {words : List ℕ} {i : ℕ} → i < length words → p (getD words i 0) ≡ true → Tested p words i → Tested p words (i + 1)
+  tested-step {words} {i} h e k = record { small = omega arith; rest = k .rest ∙ all-go p words i 0 h e }
 
-pub zeros-stop : {words : List ℕ} {i : ℕ} → i < length words → (getD words i 0 ≡ 0 → ⊥) → Zeros words i → false ≡ all (λ w. eqb w 0) words
-zeros-stop {words} {i} h n k = sym (k .rest ∙ all-stop (λ w. eqb w 0) words i 0 h (ne-eqb (getD words i 0) 0 n))
+  pub tested-stop : {words : List ℕ} {i : ℕ} → i < length words → p (getD words i 0) ≡ false → Tested p words i → false ≡ all p words
+  tested-stop {words} {i} h e k = sym (k .rest ∙ all-stop p words i 0 h e)
 
-pub zeros-end : {words : List ℕ} {i : ℕ} → length words ≤ i → Zeros words i → true ≡ all (λ w. eqb w 0) words
-zeros-end {words} {i} h k = sym (k .rest ∙ all-end (λ w. eqb w 0) words i h)
+  pub tested-end : {words : List ℕ} {i : ℕ} → length words ≤ i → Tested p words i → true ≡ all p words
+  tested-end {words} {i} h k = sym (k .rest ∙ all-end p words i h)
 
 -- ---- a row's last rule, where it keeps the others
 

@@ -4,7 +4,8 @@ use Rattle.lists.proofs.Opened.{openedLists}
 use Rattle.days.proofs.Opened.{openedDays}
 use Rattle.securities.specs.Securities.{securityOf, typeOf, frequencyOf, rowOf, rowsFrom, rowsOf, isEmpty, isFilled, filledRows, goodRow, goodRows, goodSecurity, goodTables}
 use Rattle.securities.specs.Cases.{caseTables}
+use Rattle.securities.specs.Lent.{isLimit, goodLimits}
 
 unfoldable pub openedSecurities : ℕ
-unfolding openedLists openedDays securityOf typeOf frequencyOf rowOf rowsFrom rowsOf isEmpty isFilled filledRows goodRow goodRows goodSecurity goodTables caseTables
+unfolding openedLists openedDays securityOf typeOf frequencyOf rowOf rowsFrom rowsOf isEmpty isFilled filledRows goodRow goodRows goodSecurity goodTables caseTables isLimit goodLimits
 openedSecurities = 0

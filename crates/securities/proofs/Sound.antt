@@ -1,16 +1,18 @@
--- What sound tables say of the filled rows of a security: each row keeps its rules, and Record and Beneficiary Dates rise.
+-- What sound tables say of the filled rows of a security: each row keeps its rules, and Record and Beneficiary Dates rise. How many good
+-- limits there are.
 use mathlib.Core.Path.{_≡_, refl}
 use mathlib.Core.Bool.{Bool, true, false, cond, not, _&&_}
 use mathlib.Core.List.{List, [], _∷_}
 use Prim.Native.Nat.{ℕ, zero, suc, _+_, _≤_, _<_}
 use native.Mathlib.Omega.{arith}
 use lib.Dec.{eqb, ltb, leb}
-use lib.ListN.{getD, drop}
-use borrow.Author.Tests.{ltb-true, lt-ltb, leb-true}
+use lib.ListN.{length, getD, drop}
+use borrow.Author.Tests.{eqb-true, ltb-true, lt-ltb, leb-true}
 use Rattle.lists.specs.Tests.{and-left, and-right, and-both, below-at}
 use Rattle.lists.specs.All.{all, all-weaken}
 use Rattle.lists.specs.Select.{select, rising, all-select, all-drop}
 use Rattle.days.specs.Days.{isDate, lastOpen}
+use Rattle.securities.specs.Lent.{goodLimits}
 use Rattle.securities.specs.Securities.{securityOf, typeOf, frequencyOf, Row, rowOf, rowsFrom, rowsOf, isEmpty, isFilled, filledRows, goodRow, goodRows, goodSecurity, goodTables}
 
 -- ---- a row's rules, each by itself
@@ -152,3 +154,10 @@ sound-rows calendar tables s t h =
       beneficiaries = f .beneficiaries;
       indexes = all-select _ isFilled _ (indexes-below 16 0 (drop 2 (securityOf tables s)) (omega arith));
     }
+
+-- ---- good limits
+
+-- they are five
+pub five-limits : (limits : List ℕ) → goodLimits limits ≡ true → length limits ≡ 5
+unfolding goodLimits
+five-limits limits e = eqb-true (length limits) 5 (search (and-left, and-right) depth 6)

@@ -1,2 +1,3 @@
 pub mod Securities
 pub mod Cases
+pub mod Lent

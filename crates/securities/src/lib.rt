@@ -1,10 +1,12 @@
-// Securities and their payments (document 01, section Securities and payments). The tables are a slice of 1,824 words.
+// Securities and their payments (document 01, section Securities and payments), and date limits (document 02, card 5). The tables are a
+// slice of 1,824 words; limits are taken in any length.
 ghost use mathlib.Core.Path.{_≡_};
 ghost use Prim.Native.Nat.{_<_};
 ghost use lib.Dec.{eqb};
 ghost use lib.ListN.{length};
 ghost use Rattle.lists.specs.All.{all};
 ghost use Rattle.days.specs.Days.{isDate, lastOpen};
+ghost use Rattle.securities.specs.Lent.{isLimit, goodLimits};
 ghost use Rattle.securities.specs.Securities.{securityOf, typeOf, frequencyOf, rowOf, rowsFrom, goodRow, goodRows, goodSecurity, goodTables};
 use days::Checked;
 use days::Date;
@@ -25,6 +27,11 @@ const LARGEST_FACTOR: u32 = 2_000_000_000;
 
 // The mask with the bits of all 16 accounts on.
 const LARGEST_MASK: u32 = 65535;
+
+// The words of date limits, and the largest number.
+const LIMIT_WORDS: usize = 5;
+
+const LARGEST_LIMIT: u32 = 16;
 
 // The number of the last open day, 0 where no day is open.
 fn last_day(calendar: &[u32]) -> u32
@@ -166,6 +173,49 @@ pub fn good_tables(calendar: &[u32], tables: &[u32]) -> bool
         }
     }
     true
+}
+
+// Whether a number is 1 to 16.
+fn is_limit(n: u32) -> bool
+    ensures { λ r. ⌜ r ≡ isLimit n ⌝ }
+{
+    if n < 1 {
+        return false;
+    }
+    n <= LARGEST_LIMIT
+}
+
+// Whether every number is 1 to 16.
+fn all_limits(limits: &[u32]) -> bool
+    ensures { λ r. ⌜ r ≡ all isLimit (now (limits .entry)) ⌝ }
+{
+    let mut i: usize = 0;
+    while i < limits.len() {
+        if !is_limit(limits[i]) {
+            return false;
+        }
+        i += 1;
+    }
+    true
+}
+
+// Whether date limits have their length and keep every rule: number 12 where they do not.
+pub fn good_limits(limits: &[u32]) -> bool
+    ensures { λ r. ⌜ r ≡ goodLimits (now (limits .entry)) ⌝ }
+{
+    if limits.len() != LIMIT_WORDS {
+        return false;
+    }
+    if !all_limits(limits) {
+        return false;
+    }
+    if limits[1] < limits[2] {
+        return false;
+    }
+    if limits[2] < limits[3] {
+        return false;
+    }
+    limits[4] <= limits[3]
 }
 
 // The type of a security.

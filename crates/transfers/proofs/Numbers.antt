@@ -92,7 +92,7 @@ module _ (calendar tables : List ℕ) (book : Book) (balances : List ℕ) (a : T
     transfer-refused d = skip 5 _ (ap not r) (hit-group (transferCauses tables book balances (transferOf (a .message)) (messageTag (a .message))) _ e d)
 
     module _ (z : n ≡ 0) where
-      pub transfer-room : length (a .buffer) < 35 * length (transferClaims calendar tables (book .day) (book .count + 1) (transferOf (a .message)) (messageTag (a .message)))
+      pub transfer-room : length (a .buffer) < 35 * length (transferClaims calendar tables (a .limits) (book .day) (book .count + 1) (transferOf (a .message)) (messageTag (a .message)))
           → 10 ≡ firstOf (callCauses calendar tables book balances (transfer a))
       unfolding callCauses recordCauses roomCauses claimsOf
       transfer-room h =
@@ -100,7 +100,7 @@ module _ (calendar tables : List ℕ) (book : Book) (balances : List ℕ) (a : T
           (skip-group (transferCauses tables book balances (transferOf (a .message)) (messageTag (a .message))) _ (numbered-transfer tables book balances _ _) e z
           (hit 10 [] (lt-ltb _ _ h)))
 
-      pub transfer-accepted : 35 * length (transferClaims calendar tables (book .day) (book .count + 1) (transferOf (a .message)) (messageTag (a .message))) ≤ length (a .buffer)
+      pub transfer-accepted : 35 * length (transferClaims calendar tables (a .limits) (book .day) (book .count + 1) (transferOf (a .message)) (messageTag (a .message))) ≤ length (a .buffer)
           → 0 ≡ firstOf (callCauses calendar tables book balances (transfer a))
       unfolding callCauses recordCauses roomCauses claimsOf
       transfer-accepted h =
@@ -116,19 +116,19 @@ module _ (calendar tables : List ℕ) (book : Book) (balances : List ℕ) (a : T
   same-causes : n ≡ firstOf (transferCauses tables book balances (transferOf (a .message)) (messageTag (a .message)))
   same-causes = e ∙ ap₂ (λ (x : Transfer) (y : Tag). firstOf (transferCauses tables book balances x y)) p q
 
-  pub same-claims : transferClaims calendar tables (book .day) (book .count + 1) t tag
-      ≡ transferClaims calendar tables (book .day) (book .count + 1) (transferOf (a .message)) (messageTag (a .message))
-  same-claims = ap₂ (transferClaims calendar tables (book .day) (book .count + 1)) p q
+  pub same-claims : transferClaims calendar tables (a .limits) (book .day) (book .count + 1) t tag
+      ≡ transferClaims calendar tables (a .limits) (book .day) (book .count + 1) (transferOf (a .message)) (messageTag (a .message))
+  same-claims = ap₂ (transferClaims calendar tables (a .limits) (book .day) (book .count + 1)) p q
 
   pub read-refused : (n ≡ 0 → ⊥) → n ≡ firstOf (callCauses calendar tables book balances (transfer a))
   read-refused d = transfer-refused calendar tables book balances a r n same-causes d
 
   module _ (z : n ≡ 0) where
-    pub read-room : length (a .buffer) < 35 * length (transferClaims calendar tables (book .day) (book .count + 1) t tag)
+    pub read-room : length (a .buffer) < 35 * length (transferClaims calendar tables (a .limits) (book .day) (book .count + 1) t tag)
         → 10 ≡ firstOf (callCauses calendar tables book balances (transfer a))
     read-room h = transfer-room calendar tables book balances a r n same-causes z (omega (arith, ap length same-claims))
 
-    pub read-accepted : 35 * length (transferClaims calendar tables (book .day) (book .count + 1) t tag) ≤ length (a .buffer)
+    pub read-accepted : 35 * length (transferClaims calendar tables (a .limits) (book .day) (book .count + 1) t tag) ≤ length (a .buffer)
         → 0 ≡ firstOf (callCauses calendar tables book balances (transfer a))
     read-accepted h = transfer-accepted calendar tables book balances a r n same-causes z (omega (arith, ap length same-claims))
 

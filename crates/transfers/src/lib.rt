@@ -1,13 +1,13 @@
-// The transfer call (document 01, sections Fail claims and Loans; document 02, card 1): a message is judged, its par is posted, and its
-// claims are written.
+// The transfer call (document 01, sections Fail claims and Loans; document 02, cards 1 and 5): a message is judged, its par is posted, and
+// its claims are written. The form with limits is lent maximum numbers of Beneficiary Dates, the form without them keeps the published ones.
 ghost use mathlib.Core.Path.{_≡_};
 ghost use mathlib.Core.Bool.{true, _||_};
 ghost use lib.Dec.{leb};
 ghost use lib.ListN.{length};
 ghost use Rattle.lists.specs.First.{firstOf};
 ghost use Rattle.records.specs.MessageRecords.{transferKind, transferOf, reads};
-ghost use Rattle.book.specs.Soundness.{bookCauses};
-ghost use Rattle.history.specs.Calls.{publishedTransfer};
+ghost use Rattle.book.specs.Soundness.{bookCauses, lentBookCauses};
+ghost use Rattle.history.specs.Calls.{Call, publishedTransfer};
 ghost use Rattle.history.specs.Causes.{outOfRange, transferCauses};
 ghost use Rattle.history.specs.Results.{left, result};
 use book::Book;
@@ -15,6 +15,9 @@ use book::Done;
 use records::ReadTransfer;
 use records::Transfer;
 use tags::Tag;
+
+// The published maximum numbers of Beneficiary Dates: MBS, then monthly, quarterly, semiannual, annual.
+const MAXIMUM_NUMBERS: [u32; 5] = [7, 6, 3, 2, 1];
 
 // Whether an account or the security is none of the book's.
 fn beyond(t: Transfer) -> bool
@@ -73,18 +76,19 @@ fn own_number(tables: &[u32], book: Book, balances: &[u64], t: Transfer, tag: Ta
     loans::loan_number(balances, t)
 }
 
-// The transfer of a sound book with a message that reads.
+// The transfer of a sound book with good limits and a message that reads.
 fn transfer_read(
     calendar: &[u32],
     tables: &[u32],
+    limits: &[u32],
     book: Book,
     balances: &mut [u64],
     message: &[u8],
     claims: &mut [u8],
     t: Transfer,
 ) -> Done
-    requires { ⌜ (firstOf (bookCauses (now calendar) (now tables) (book .day) (now balances)) ≡ 0) × (reads transferKind (now message) ≡ true) × (t ≡ transferOf (now message)) ⌝ }
-    ensures { λ r. ⌜ left r (now (claims .exit)) (now (balances .exit)) ≡ result (now (calendar .entry)) (now (tables .entry)) book (now (balances .entry)) (publishedTransfer (record { message = now (message .entry); buffer = now (claims .entry) })) ⌝ }
+    requires { ⌜ (firstOf (lentBookCauses (now calendar) (now tables) (now limits) (book .day) (now balances)) ≡ 0) × (reads transferKind (now message) ≡ true) × (t ≡ transferOf (now message)) ⌝ }
+    ensures { λ r. ⌜ left r (now (claims .exit)) (now (balances .exit)) ≡ result (now (calendar .entry)) (now (tables .entry)) book (now (balances .entry)) (Call.transfer (record { message = now (message .entry); buffer = now (claims .entry); limits = now (limits .entry) })) ⌝ }
 {
     let tag = tags::tag_of(reading::first_line(message), reading::second_line(message));
     let number = own_number(tables, book, balances, t, tag);
@@ -93,7 +97,7 @@ fn transfer_read(
     }
     let day = book.day;
     let count = book.count + 1;
-    let rows = fails::recent_rows(tables, day, t, tag);
+    let rows = fails::recent_rows(tables, limits, day, t, tag);
     let n = fails::transfer_claims(false, claims, calendar, tables, day, count, t, rows);
     if claims.len() < 35 * n {
         return book::refused(10, book);
@@ -107,7 +111,45 @@ fn transfer_read(
     }
 }
 
-// The transfer of a sound book: numbers 1 to 4 do not apply.
+// The transfer of a sound book with good limits: numbers 1 to 4 and 12 do not apply.
+fn sound_with_limits(
+    calendar: &[u32],
+    tables: &[u32],
+    limits: &[u32],
+    book: Book,
+    balances: &mut [u64],
+    message: &[u8],
+    claims: &mut [u8],
+) -> Done
+    requires { ⌜ firstOf (lentBookCauses (now calendar) (now tables) (now limits) (book .day) (now balances)) ≡ 0 ⌝ }
+    ensures { λ r. ⌜ left r (now (claims .exit)) (now (balances .exit)) ≡ result (now (calendar .entry)) (now (tables .entry)) book (now (balances .entry)) (Call.transfer (record { message = now (message .entry); buffer = now (claims .entry); limits = now (limits .entry) })) ⌝ }
+{
+    let ReadTransfer::Is(t) = reading::read_transfer(message) else {
+        return book::refused(5, book);
+    };
+    transfer_read(calendar, tables, limits, book, balances, message, claims, t)
+}
+
+// The transfer of any book with any limits: the first number that applies, or its par posted and its claims.
+pub fn transfer_with_limits(
+    calendar: &[u32],
+    tables: &[u32],
+    limits: &[u32],
+    book: Book,
+    balances: &mut [u64],
+    message: &[u8],
+    claims: &mut [u8],
+) -> Done
+    ensures { λ r. ⌜ left r (now (claims .exit)) (now (balances .exit)) ≡ result (now (calendar .entry)) (now (tables .entry)) book (now (balances .entry)) (Call.transfer (record { message = now (message .entry); buffer = now (claims .entry); limits = now (limits .entry) })) ⌝ }
+{
+    let number = judging::transfer_number(calendar, tables, limits, book.day, balances);
+    if number != 0 {
+        return book::refused(number, book);
+    }
+    sound_with_limits(calendar, tables, limits, book, balances, message, claims)
+}
+
+// The transfer of a sound book with the published numbers: numbers 1 to 4 do not apply.
 pub fn transfer_sound(
     calendar: &[u32],
     tables: &[u32],
@@ -119,13 +161,11 @@ pub fn transfer_sound(
     requires { ⌜ firstOf (bookCauses (now calendar) (now tables) (book .day) (now balances)) ≡ 0 ⌝ }
     ensures { λ r. ⌜ left r (now (claims .exit)) (now (balances .exit)) ≡ result (now (calendar .entry)) (now (tables .entry)) book (now (balances .entry)) (publishedTransfer (record { message = now (message .entry); buffer = now (claims .entry) })) ⌝ }
 {
-    let ReadTransfer::Is(t) = reading::read_transfer(message) else {
-        return book::refused(5, book);
-    };
-    transfer_read(calendar, tables, book, balances, message, claims, t)
+    let numbers = MAXIMUM_NUMBERS;
+    sound_with_limits(calendar, tables, &numbers, book, balances, message, claims)
 }
 
-// The transfer of any book: the first number that applies, or its par posted and its claims.
+// The transfer of any book with the published numbers.
 pub fn transfer(
     calendar: &[u32],
     tables: &[u32],
@@ -136,9 +176,6 @@ pub fn transfer(
 ) -> Done
     ensures { λ r. ⌜ left r (now (claims .exit)) (now (balances .exit)) ≡ result (now (calendar .entry)) (now (tables .entry)) book (now (balances .entry)) (publishedTransfer (record { message = now (message .entry); buffer = now (claims .entry) })) ⌝ }
 {
-    let number = judging::book_number(calendar, tables, book.day, balances);
-    if number != 0 {
-        return book::refused(number, book);
-    }
-    transfer_sound(calendar, tables, book, balances, message, claims)
+    let numbers = MAXIMUM_NUMBERS;
+    transfer_with_limits(calendar, tables, &numbers, book, balances, message, claims)
 }

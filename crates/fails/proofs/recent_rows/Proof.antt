@@ -10,7 +10,7 @@ use Rattle.tags.specs.declared.Tag.{Tag}
 use Rattle.tags.specs.declared.Tag.the-variants.{Absent, Several, Unended, NotDate, On}
 use Rattle.tags.specs.ContractDateTag.{tagged, contractDate}
 use Rattle.tags.proofs.Tag.{the-type}
-use Rattle.claims.specs.Fails.{maximumNumbers, maximumFor, maximumOf}
+use Rattle.claims.specs.Fails.{maximumFor, maximumOf}
 use Rattle.claims.specs.Reached.{reachedRows}
 use Rattle.fails.proofs.Claimed.{rows-by-code, rows-untagged, rows-tagged}
 use borrow.Author.Needs.{needs}
@@ -34,7 +34,7 @@ no-rows-requires : tie.Need-no-rows-requires
 no-rows-requires c κs = search needs
 
 returns : tie.Need-returns
-returns c = c .no-rows .ensures ∙ rows-by-code _ _ _ _ (c .before .if1 .taken)
+returns c = c .no-rows .ensures ∙ rows-by-code _ _ _ _ _ (c .before .if1 .taken)
 
 reached-rows-requires : tie.Need-reached-rows-requires
 reached-rows-requires c κs = search needs
@@ -50,7 +50,7 @@ returns-2 : tie.Need-returns-2
 unfolding reachedRows
 returns-2 c =
     let u = untagged _ (c .match .keys2) in
-    rows-untagged _ _ _ _ (c .before .before .before .if1 .left) (c .before .before .reached-rows .ensures) (c .before .interim-end .ensures) (u .0) (u .1)
+    rows-untagged _ _ _ _ _ (c .before .before .before .if1 .left) (c .before .before .reached-rows .ensures) (c .before .interim-end .ensures) (u .0) (u .1)
 
 cast-s : tie.Need-cast-s
 cast-s c = search needs
@@ -62,7 +62,9 @@ frequency-requires : tie.Need-frequency-requires
 frequency-requires c κs = search needs
 
 maximum-for-requires : tie.Need-maximum-for-requires
-maximum-for-requires c κs = subst⁻¹ (λ (k : ℕ). k ≤ 4) (c .frequency .ensures) (c .before .before .before .before .before .before .before .before .before .before .before .pre .2)
+maximum-for-requires c κs =
+    let p = c .before .before .before .before .before .before .before .before .before .before .before .before .pre in
+    (p .1, subst⁻¹ (λ (k : ℕ). k ≤ 4) (c .frequency .ensures) (p .3))
 
 first-of-last-requires : tie.Need-first-of-last-requires
 first-of-last-requires c κs = search needs
@@ -75,8 +77,8 @@ returns-3 : tie.Need-returns-3
 unfolding reachedRows maximumOf
 returns-3 c =
     let s = c .before .before .before .before .before .before .before .before .before in
-    rows-tagged _ _ _ _ (s .before .before .if1 .left) (s .before .reached-rows .ensures) (s .interim-end .ensures) (c .before .before .before .before .before .before .before .tag .given .1)
-    (c .before .before .maximum-for .ensures ∙ ap₂ (maximumFor maximumNumbers) (c .before .before .before .before .security-type .ensures) (c .before .before .before .frequency .ensures))
+    rows-tagged _ _ _ _ _ (s .before .before .if1 .left) (s .before .reached-rows .ensures) (s .interim-end .ensures) (c .before .before .before .before .before .before .before .tag .given .1)
+    (c .before .before .maximum-for .ensures ∙ ap₂ (maximumFor _) (c .before .before .before .before .security-type .ensures) (c .before .before .before .frequency .ensures))
     (c .before .first-of-last .ensures) (c .waiting-row .ensures)
 
 pub recent-rows-spec : {M : Type 1} → statement M

@@ -1,50 +1,31 @@
--- A number of the causes 1 to 4 refuses the call; else the book is sound.
+-- The form without limits is the form that is lent the published numbers.
 use Rattle.claims.specs.Fails.{maximumNumbers}
-use Rattle.history.specs.Calls.{bufferOf, transfer}
-use Rattle.history.specs.Causes.{soundCauses}
-use Rattle.history.proofs.Answers.{answers-refused, book-refuses}
 use borrow.Author.Needs.{needs}
 use Rattle.transfers.proofs.transfer.Statement.{statement}
 use Rattle.transfers.proofs.transfer.Tie as tie
 
-book-number-requires : tie.Need-book-number-requires
-book-number-requires c κs = search needs
+slice-aggregate-transfer-with-limits : tie.Need-slice-aggregate-transfer-with-limits
+slice-aggregate-transfer-with-limits c = search needs
 
-refused-requires : tie.Need-refused-requires
-refused-requires c κs = search needs
+transfer-with-limits-requires : tie.Need-transfer-with-limits-requires
+transfer-with-limits-requires c κs = search needs
 
 same-length : tie.Need-same-length
 same-length c = search needs
 
-returns : tie.Need-returns
-unfolding bufferOf soundCauses
-returns c =
-    let a = c .before .before .before .before .before .before .before .before .before .args in
-    let k = transfer (record { message = a .message .now; buffer = a .claims .now; limits = maximumNumbers }) in
-    rw (c .refused .ensures)
-    (answers-refused (a .calendar .now) (a .tables .now) (a .book) (a .balances .now) k _ (book-refuses (a .calendar .now) (a .tables .now) (a .book) (a .balances .now) k _ (c .before .before .book-number .ensures) (c .before .if1 .taken)) (c .before .if1 .taken))
-
-transfer-sound-requires : tie.Need-transfer-sound-requires
-transfer-sound-requires c κs = search needs
-
 same-length-2 : tie.Need-same-length-2
 same-length-2 c = search needs
 
-same-length-3 : tie.Need-same-length-3
-same-length-3 c = search needs
-
-returns-2 : tie.Need-returns-2
-returns-2 c = search needs
+returns : tie.Need-returns
+unfolding maximumNumbers
+returns c = c .before .before .before .before .transfer-with-limits .ensures
 
 pub transfer-spec : {M : Type 1} → statement M
 transfer-spec =
     tie.close
     (tie.spec
-    book-number-requires
-    refused-requires
+    slice-aggregate-transfer-with-limits
+    transfer-with-limits-requires
     same-length
-    returns
-    transfer-sound-requires
     same-length-2
-    same-length-3
-    returns-2)
+    returns)

@@ -1,43 +1,21 @@
--- A message that does not read gets 5; else its fields are judged.
-use Rattle.records.proofs.Answers.{transfer-is, transfer-not}
+-- The published numbers are good limits, so on a sound book none of the causes before 5 applies.
+use mathlib.Core.Path.{refl}
+use Rattle.lists.specs.All.{all}
+use Rattle.securities.specs.Lent.{isLimit, goodLimits}
 use Rattle.claims.specs.Fails.{maximumNumbers}
-use Rattle.history.specs.Calls.{transfer, bufferOf}
-use Rattle.history.specs.Causes.{soundCauses}
-use Rattle.history.proofs.Answers.{answers-refused, sound-number}
-use Rattle.transfers.proofs.Numbers.{transfer-cut}
+use Rattle.book.proofs.Judged.{sound-lent}
 use borrow.Author.Needs.{needs}
-use native.Mathlib.Omega.{arith}
 use Rattle.transfers.proofs.transfer_sound.Statement.{statement}
 use Rattle.transfers.proofs.transfer_sound.Tie as tie
 
-read-transfer-requires : tie.Need-read-transfer-requires
-read-transfer-requires c κs = search needs
+slice-aggregate-sound-with-limits : tie.Need-slice-aggregate-sound-with-limits
+slice-aggregate-sound-with-limits c = search needs
 
-enum-known-t : tie.Need-enum-known-t
-enum-known-t c = search needs
-
-enum-told : tie.Need-enum-told
-enum-told c = search needs
-
-refused-requires : tie.Need-refused-requires
-refused-requires c κs = search needs
-
-returns : tie.Need-returns
-unfolding bufferOf soundCauses
-returns c =
-    let s = c .before .before .before .before .before .before .before .before .before in
-    let a = s .args in
-    rw (c .refused .ensures)
-    (answers-refused (a .calendar .now) (a .tables .now) (a .book) (a .balances .now) (transfer (record { message = a .message .now; buffer = a .claims .now; limits = maximumNumbers })) _
-    (sound-number (a .calendar .now) (a .tables .now) (a .book) (a .balances .now) (transfer (record { message = a .message .now; buffer = a .claims .now; limits = maximumNumbers })) _ (s .pre)
-    (transfer-cut (a .calendar .now) (a .tables .now) (a .book) (a .balances .now) (record { message = a .message .now; buffer = a .claims .now; limits = maximumNumbers }) (transfer-not (a .message .now) (c .before .before .before .read-transfer .ensures) (c .before .enum-told .given .1))))
-    (λ z. omega arith))
-
-transfer-read-requires : tie.Need-transfer-read-requires
-transfer-read-requires c κs =
-    let s = c .before .before .before .before .before .before .before .before .before .before .before in
-    let f = transfer-is (s .args .message .now) (c .before .before .before .before .before .read-transfer .ensures) (c .before .before .before .t .given .1) in
-    (s .pre, f .whole, f .same)
+sound-with-limits-requires : tie.Need-sound-with-limits-requires
+unfolding goodLimits isLimit all
+sound-with-limits-requires c κs =
+    let s = c .before .before .before .before .before .before .before .before in
+    sound-lent _ _ _ _ _ (s .pre) refl
 
 same-length : tie.Need-same-length
 same-length c = search needs
@@ -45,19 +23,16 @@ same-length c = search needs
 same-length-2 : tie.Need-same-length-2
 same-length-2 c = search needs
 
-returns-2 : tie.Need-returns-2
-returns-2 c = search needs
+returns : tie.Need-returns
+unfolding maximumNumbers
+returns c = c .before .before .before .before .sound-with-limits .ensures
 
 pub transfer-sound-spec : {M : Type 1} → statement M
 transfer-sound-spec =
     tie.close
     (tie.spec
-    read-transfer-requires
-    enum-known-t
-    enum-told
-    refused-requires
-    returns
-    transfer-read-requires
+    slice-aggregate-sound-with-limits
+    sound-with-limits-requires
     same-length
     same-length-2
-    returns-2)
+    returns)

@@ -1,0 +1,47 @@
+-- `transfer_number` gives the first number of the table, then 12 for the limits, then that of the day and the balances.
+use mathlib.Core.Path.{sym, ap, _∙_}
+use mathlib.Core.Bool.{not}
+use Rattle.lists.specs.First.{hit, skip, hit-group, skip-group}
+use Rattle.book.specs.Soundness.{lentCauses, lentBookCauses}
+use Rattle.book.proofs.Causes.{numbered-tables, calendar-length, balance-length}
+use borrow.Author.Needs.{needs}
+use Rattle.judging.proofs.transfer_number.Statement.{statement}
+use Rattle.judging.proofs.transfer_number.Tie as tie
+
+table-number-requires : tie.Need-table-number-requires
+table-number-requires c κs = search needs
+
+returns : tie.Need-returns
+unfolding lentBookCauses
+returns c = hit-group _ _ (c .before .table-number .ensures) (c .if1 .taken)
+
+good-limits-requires : tie.Need-good-limits-requires
+good-limits-requires c κs = search needs
+
+returns-2 : tie.Need-returns-2
+unfolding lentBookCauses lentCauses
+returns-2 c =
+    skip-group _ _ (numbered-tables _ _ _) (c .before .before .before .table-number .ensures) (c .before .before .if1 .left)
+    (hit 12 _ (ap not (sym (c .before .good-limits .ensures)) ∙ c .if2 .taken))
+
+state-number-requires : tie.Need-state-number-requires
+state-number-requires c κs =
+    let z = sym (c .before .before .before .table-number .ensures) ∙ c .before .before .if1 .left in
+    (calendar-length _ _ _ z, balance-length _ _ _ z)
+
+returns-3 : tie.Need-returns-3
+unfolding lentBookCauses lentCauses
+returns-3 c =
+    skip-group _ _ (numbered-tables _ _ _) (c .before .before .before .before .table-number .ensures) (c .before .before .before .if1 .left)
+    (skip 12 _ (ap not (sym (c .before .before .good-limits .ensures)) ∙ c .before .if2 .left) (c .state-number .ensures))
+
+pub transfer-number-spec : {M : Type 1} → statement M
+transfer-number-spec =
+    tie.close
+    (tie.spec
+    table-number-requires
+    returns
+    good-limits-requires
+    returns-2
+    state-number-requires
+    returns-3)
