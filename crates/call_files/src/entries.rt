@@ -1,10 +1,14 @@
 // Files of single calls and of what they should give: an entry for each call, one after another, in the same order in both files.
-// An entry of the calls: the call in a byte (0 open, 1 transfer, 2 close); the number of calendar words in four bytes and the words;
-// the tables likewise; balances; day and count; the length of the message in four bytes and the message; the claim buffer likewise.
+// An entry of the calls: the call in a byte (0 open, 1 transfer, 2 close, 3 transfer with limits); the number of calendar words in four
+// bytes and the words; the tables likewise; balances; day and count; the length of the message in four bytes and the message; the claim
+// buffer likewise; of a transfer with limits the limits likewise, and four bytes for pieces, which are not lent.
 // An entry of what they give: the number in two bytes; day, count and claims in four each; balances; the claim buffer.
 // Balances: how many words in four bytes, how many of them are not zero in four, and for each of these its place and its par.
+use crate::LENT_TRANSFER;
+use crate::Limits;
 use crate::byte_at;
 use crate::half_at;
+use crate::limits_at;
 use crate::past_pairs;
 use crate::past_words;
 use crate::plus;
@@ -25,6 +29,7 @@ pub struct Entry {
     pub message_length: usize,
     pub buffer: usize,
     pub buffer_length: usize,
+    pub limits: Limits,
     pub next: usize,
 }
 
@@ -51,6 +56,14 @@ fn past_bytes(s: &[u8], at: usize) -> usize {
     plus(plus(at, 4), word_at(s, at) as usize)
 }
 
+// The place behind the pieces of a call at a place.
+fn past_pieces(kind: u8, at: usize) -> usize {
+    if kind == LENT_TRANSFER {
+        return plus(at, 4);
+    }
+    at
+}
+
 // The call at a place.
 pub fn entry_at(s: &[u8], at: usize) -> Entry {
     let calendar = plus(at, 1);
@@ -59,8 +72,10 @@ pub fn entry_at(s: &[u8], at: usize) -> Entry {
     let book = past_balances(s, balances);
     let message = plus(book, 8);
     let buffer = past_bytes(s, message);
+    let kind = byte_at(s, at);
+    let limits = limits_at(kind, s, past_bytes(s, buffer));
     Entry {
-        kind: byte_at(s, at),
+        kind,
         calendar: plus(calendar, 4),
         calendar_words: word_at(s, calendar) as usize,
         tables: plus(tables, 4),
@@ -73,7 +88,8 @@ pub fn entry_at(s: &[u8], at: usize) -> Entry {
         message_length: word_at(s, message) as usize,
         buffer: plus(buffer, 4),
         buffer_length: word_at(s, buffer) as usize,
-        next: past_bytes(s, buffer),
+        limits,
+        next: past_pieces(kind, past_words(limits.at, limits.words)),
     }
 }
 

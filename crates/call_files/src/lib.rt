@@ -11,6 +11,15 @@ use libc::STDOUT_FILENO;
 pub mod entries;
 pub mod steps;
 
+// The kind of a transfer that is lent limits.
+const LENT_TRANSFER: u8 = 3;
+
+// Where the limits of a call stand, and how many there are.
+pub struct Limits {
+    pub at: usize,
+    pub words: u32,
+}
+
 // The modulus of the checksums, a prime.
 const MODULUS: u64 = 4294967291;
 
@@ -200,9 +209,65 @@ pub fn same_balances(a: &[u64], b: &[u64]) -> bool
     true
 }
 
-// Makes a call: 0 opens a book on the day of the one given, 1 is a transfer, any other a close.
+// The limits of a call at a place: none but for a transfer that is lent them.
+pub fn limits_at(kind: u8, s: &[u8], at: usize) -> Limits {
+    if kind == LENT_TRANSFER {
+        return Limits {
+            at: plus(at, 4),
+            words: word_at(s, at),
+        };
+    }
+    Limits { at, words: 0 }
+}
+
+// Fills limits with those at a place, and makes a transfer that is lent them.
+fn lend(
+    s: &[u8],
+    at: usize,
+    limits: &mut [u32],
+    calendar: &[u32],
+    tables: &[u32],
+    book: Book,
+    balances: &mut [u64],
+    message: &[u8],
+    claims: &mut [u8],
+) -> Done {
+    words_at(s, at, limits);
+    transfers::transfer_with_limits(calendar, tables, limits, book, balances, message, claims)
+}
+
+// Makes a transfer that is lent limits of the file, up to 16 of them.
+fn lent_transfer(
+    s: &[u8],
+    lent: Limits,
+    calendar: &[u32],
+    tables: &[u32],
+    book: Book,
+    balances: &mut [u64],
+    message: &[u8],
+    claims: &mut [u8],
+) -> Done {
+    let mut limits = [0u32; 16];
+    let n = least(lent.words as usize, 16);
+    lend(
+        s,
+        lent.at,
+        &mut limits[..n],
+        calendar,
+        tables,
+        book,
+        balances,
+        message,
+        claims,
+    )
+}
+
+// Makes a call: 0 opens a book on the day of the one given, 1 is a transfer, 3 a transfer that is lent limits of the file, any other a
+// close.
 pub fn call(
     kind: u8,
+    s: &[u8],
+    lent: Limits,
     calendar: &[u32],
     tables: &[u32],
     book: Book,
@@ -215,6 +280,9 @@ pub fn call(
     }
     if kind == 1 {
         return transfers::transfer(calendar, tables, book, balances, message, claims);
+    }
+    if kind == LENT_TRANSFER {
+        return lent_transfer(s, lent, calendar, tables, book, balances, message, claims);
     }
     closes::close(calendar, tables, book, balances, message, claims)
 }

@@ -1,13 +1,17 @@
 // Files of steps: the calls of a run, with the tables and the saved books that they start from.
 // A file is its number of steps in four bytes, then the steps. A step is its kind in a byte, the length of its name in a byte, the
 // name, the length of its message in four bytes, the message, and the length of its claim buffer in four bytes. Kinds: 0 opens a book
-// (message: the day), 1 is a transfer, 2 a close, 3 sets calendar and tables (message: their words), 4 sets the book (message: day,
-// count, how many balances are not zero, and for each of these its place in four bytes and its par in eight).
+// (message: the day), 1 is a transfer, 2 a close, 3 a transfer with limits (behind its claim buffer the number of limits and each of them,
+// in four bytes), 128 sets calendar and tables (message: their words), 129 sets the book (message: day, count, how many balances are not
+// zero, and for each of these its place in four bytes and its par in eight).
+use crate::Limits;
 use crate::byte_at;
 use crate::call;
 use crate::fill;
+use crate::limits_at;
 use crate::pairs_at;
 use crate::part;
+use crate::past_words;
 use crate::plus;
 use crate::word_at;
 use crate::words_at;
@@ -22,8 +26,12 @@ pub struct Step {
     pub message: usize,
     pub message_length: usize,
     pub room: usize,
+    pub limits: Limits,
     pub next: usize,
 }
+
+// The first kind that is no call: it sets calendar and tables.
+const SET_TABLES: u8 = 128;
 
 // The step at a place.
 pub fn step_at(s: &[u8], at: usize) -> Step {
@@ -33,20 +41,23 @@ pub fn step_at(s: &[u8], at: usize) -> Step {
     let message = plus(length, 4);
     let message_length = word_at(s, length) as usize;
     let room = plus(message, message_length);
+    let kind = byte_at(s, at);
+    let limits = limits_at(kind, s, plus(room, 4));
     Step {
-        kind: byte_at(s, at),
+        kind,
         name,
         name_length,
         message,
         message_length,
         room: word_at(s, room) as usize,
-        next: plus(room, 4),
+        limits,
+        next: past_words(limits.at, limits.words),
     }
 }
 
-// Whether a step is one of the three calls.
+// Whether a step is a call.
 pub fn is_call(step: Step) -> bool {
-    step.kind < 3
+    step.kind < SET_TABLES
 }
 
 // The name of a step.
@@ -80,7 +91,7 @@ pub fn set(
     balances: &mut [u64; 8192],
 ) -> Book {
     let message = part(s, step.message, step.message_length);
-    if step.kind == 3 {
+    if step.kind == SET_TABLES {
         set_tables(message, calendar, tables);
         return book;
     }
@@ -111,7 +122,17 @@ pub fn make(
     fill(claims);
     let message = part(s, step.message, step.message_length);
     let book = given(step.kind, message, book);
-    call(step.kind, calendar, tables, book, balances, message, claims)
+    call(
+        step.kind,
+        s,
+        step.limits,
+        calendar,
+        tables,
+        book,
+        balances,
+        message,
+        claims,
+    )
 }
 
 // The book after a call: a refused opening leaves the one that was there.

@@ -5,6 +5,7 @@ use mathlib.Core.Logic.{_≢_}
 use mathlib.Core.List.{List, [], _∷_}
 use Prim.Native.Nat.{ℕ, zero, suc}
 use native.Mathlib.Omega.{arith}
+use Rattle.claims.specs.Fails.{maximumNumbers}
 use Rattle.book.specs.declared.Book.{Book}
 use Rattle.book.specs.declared.Done.{Done}
 use Rattle.history.specs.Calls.{Call, transfer, close, bufferOf}
@@ -14,18 +15,25 @@ use Rattle.history.specs.Ledger.{started, judged}
 use Rattle.history.specs.Statement.{AgreesWithLedger}
 use Rattle.history.proofs.Theorem.{every-history}
 use Rattle.tracker.specs.declared.own_book.Reply.{Reply}
-use Rattle.tracker.specs.Forms.{together, FormsAgree, AsItWas, RefusedLeaves, AcceptedTransferCounts, AcceptedCloseMoves}
+use Rattle.tracker.specs.Forms.{together, Same, FormsAgree, PublishedFormAgrees, AsItWas, RefusedLeaves, AcceptedTransferCounts, AcceptedCloseMoves}
 use Rattle.tracker.specs.OwnBook.{stepFor, stepsOf, runOf, EveryListHasSteps, RunsAlike, EveryOwnBookHistory}
 
 -- What a result says as an answer.
 answered : Result → Done
 answered r = record { number = r .answer .number; book = r .answer .book; claims = r .answer .claims }
 
-pub forms-agree : FormsAgree
+-- what is left alike is the same
+left-same : {d d′ : Done} {buffer after buffer′ after′ : List ℕ} → left d buffer after ≡ left d′ buffer′ after′ → Same d buffer after d′ buffer′ after′
 unfolding left answered
-forms-agree calendar tables book balances call d buffer after r own buffer′ after′ e e′ =
-    let both = e ∙ sym e′ in
+left-same both =
     record { answer = ap answered both; buffer-same = ap (λ x. x .answer .buffer) both; balances-same = ap (λ x. x .balances) both }
+
+pub forms-agree : FormsAgree
+forms-agree calendar tables book balances call d buffer after r own buffer′ after′ e e′ = left-same (e ∙ sym e′)
+
+pub published-form : PublishedFormAgrees
+unfolding maximumNumbers
+published-form calendar tables book balances message found d d′ buffer after buffer′ after′ e e′ = left-same (e ∙ sym e′)
 
 module _ (calendar tables : List ℕ) (book : Book) (balances : List ℕ) where
   refused-for : (n : ℕ) (call : Call) (r : Reply) (own : Book) (buffer after : List ℕ)

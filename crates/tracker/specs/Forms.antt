@@ -1,13 +1,13 @@
 -- Transfer and close have two forms: the book by value, and the caller's own book, which the call updates. One clause says what both
--- give and leave, so on the same values they give and leave the same.
+-- give and leave, so on the same values they give and leave the same. A transfer by value has a further form, which is lent date limits.
 use mathlib.Core.Path.{_≡_}
 use mathlib.Core.Logic.{_≢_}
-use mathlib.Core.List.{List}
+use mathlib.Core.List.{List, [], _∷_}
 use Prim.Native.Nat.{ℕ, _+_}
 use Rattle.days.specs.Days.{openAfter}
 use Rattle.book.specs.declared.Book.{Book}
 use Rattle.book.specs.declared.Done.{Done}
-use Rattle.history.specs.Calls.{Arguments, TransferArguments, Call, transfer, close, bufferOf}
+use Rattle.history.specs.Calls.{Arguments, TransferArguments, Call, transfer, close, publishedTransfer, bufferOf}
 use Rattle.history.specs.Results.{left, result}
 use Rattle.tracker.specs.declared.own_book.Reply.{Reply}
 
@@ -33,6 +33,13 @@ abbrev pub FormsAgree : Type 0
 FormsAgree = (calendar tables : List ℕ) (book : Book) (balances : List ℕ) (call : Call) (d : Done) (buffer after : List ℕ) (r : Reply)
     (own : Book) (buffer′ after′ : List ℕ) → Gives calendar tables book balances call d buffer after
     → Gives calendar tables book balances call (together r own) buffer′ after′ → Same d buffer after (together r own) buffer′ after′
+
+-- On the same values a transfer that is lent the published numbers and one in the form without limits give and leave the same.
+abbrev pub PublishedFormAgrees : Type 0
+PublishedFormAgrees = (calendar tables : List ℕ) (book : Book) (balances message found : List ℕ) (d d′ : Done) (buffer after buffer′ after′ : List ℕ)
+    → Gives calendar tables book balances (transfer (record { message = message; buffer = found; limits = 7 ∷ 6 ∷ 3 ∷ 2 ∷ 1 ∷ [] })) d buffer after
+    → Gives calendar tables book balances (publishedTransfer (record { message = message; buffer = found })) d′ buffer′ after′
+    → Same d buffer after d′ buffer′ after′
 
 -- A refused call leaves the caller's book, the claim buffer and the balances as they were, and writes no claim.
 pub record AsItWas (book own : Book) (found buffer balances after : List ℕ) (claims : ℕ) : Type 0 where

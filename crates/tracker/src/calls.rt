@@ -20,8 +20,8 @@ pub extern "C" fn claim_tracker_open(
     opens::open(calendar, tables, balances, day)
 }
 
-// Works a transfer: posts its par, and writes its claims from the claim buffer's start. Refused, it returns the first number that
-// applies and the book given, and leaves balances and claim buffer.
+// Works a transfer with the published maximum numbers: posts its par, and writes its claims from the claim buffer's start. Refused, it
+// returns the first number that applies and the book given, and leaves balances and claim buffer.
 #[no_mangle]
 pub extern "C" fn claim_tracker_transfer(
     calendar: &[u32],
@@ -34,6 +34,23 @@ pub extern "C" fn claim_tracker_transfer(
     ensures { λ r. ⌜ Gives (now (calendar .entry)) (now (tables .entry)) book (now (balances .entry)) (publishedTransfer (record { message = now (message .entry); buffer = now (claims .entry) })) r (now (claims .exit)) (now (balances .exit)) ⌝ }
 {
     transfers::transfer(calendar, tables, book, balances, message, claims)
+}
+
+// Works a transfer as claim_tracker_transfer does, with the date limits that it is lent: maximum numbers of Beneficiary Dates for MBS, then
+// monthly, quarterly, semiannual, annual.
+#[no_mangle]
+pub extern "C" fn claim_tracker_transfer_with_limits(
+    calendar: &[u32],
+    tables: &[u32],
+    limits: &[u32],
+    book: Book,
+    balances: &mut [u64],
+    message: &[u8],
+    claims: &mut [u8],
+) -> Done
+    ensures { λ r. ⌜ Gives (now (calendar .entry)) (now (tables .entry)) book (now (balances .entry)) (Call.transfer (record { message = now (message .entry); buffer = now (claims .entry); limits = now (limits .entry) })) r (now (claims .exit)) (now (balances .exit)) ⌝ }
+{
+    transfers::transfer_with_limits(calendar, tables, limits, book, balances, message, claims)
 }
 
 // Works a close: the day moves to the next open day, and the lending and repo claims of the Record Dates crossed are written from the

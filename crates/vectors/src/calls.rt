@@ -90,7 +90,17 @@ fn make(
         day: call.day,
         count: call.count,
     };
-    call_files::call(call.kind, calendar, tables, book, balances, message, claims)
+    call_files::call(
+        call.kind,
+        s,
+        call.limits,
+        calendar,
+        tables,
+        book,
+        balances,
+        message,
+        claims,
+    )
 }
 
 // Fills a call's arguments and makes it.
