@@ -17,6 +17,12 @@
    open day. Tables that break this are refused with 3. An agency MBS with the coupons of April and May 2023, half a cent on the dollar:
        3, 1,  20230401, 20230401, 20230415, 5000000, 0, 0, 0,  20230501, 20230501, 20230515, 5000000, 0, 0, 0,  then zeros
 
+   Limits: 5 words, lent to claim_tracker_transfer_with_limits alone: the maximum numbers of Beneficiary Dates that a fail looks at, the
+   most recent ones. The first is for types 3 and 4, the others are for types 1 and 2 by frequency: monthly, quarterly, semiannual, annual.
+   Each is 1 to 16, and from monthly to annual none is larger than the one before. Limits of another length, or that break this, are
+   refused with 12. All other calls keep the published numbers:
+       7, 6, 3, 2, 1
+
    A book: its day, the number of its accepted transfers, and 8,192 words of balances: word 4096 * k + 256 * s + 16 * l + b is the par of
    security s that account l has lent to account b, k 0 on loan, 1 on repo, at most 9,000,000,000, and zero where l is b. Its day is open
    and an open day follows it. All of it is the caller's, who may store it and go on later.
@@ -53,9 +59,9 @@
 #include <stdint.h>
 
 #define CLAIM_TRACKER_VERSION_MAJOR 1
-#define CLAIM_TRACKER_VERSION_MINOR 3
-#define CLAIM_TRACKER_VERSION_PATCH 1
-#define CLAIM_TRACKER_VERSION "1.3.1"
+#define CLAIM_TRACKER_VERSION_MINOR 4
+#define CLAIM_TRACKER_VERSION_PATCH 0
+#define CLAIM_TRACKER_VERSION "1.4.0"
 
 /* Every function answers a number that a caller has to look at, and takes no null pointer; compilers that can, watch over both. */
 #if defined(__GNUC__)
@@ -89,6 +95,7 @@ enum {
     CLAIM_TRACKER_SECURITY_WORDS = 114,
     CLAIM_TRACKER_CALENDAR_WORDS = 480,
     CLAIM_TRACKER_TABLE_WORDS = 1824,
+    CLAIM_TRACKER_LIMIT_WORDS = 5,
     CLAIM_TRACKER_BALANCE_WORDS = 8192
 };
 
@@ -111,12 +118,14 @@ enum {
 #define CLAIM_TRACKER_CLAIM_ROOM(n) ((size_t)CLAIM_TRACKER_CLAIM_BYTES * (size_t)(n))
 
 /* The number of a call. 0 is accepted. With any other the call is refused and leaves book, balances and buffers as they were. Where several
-   apply, the one that stands first here is answered. An opening meets 1 to 4 alone, a reader 5, a writer 10. */
+   apply, the one that stands first here is answered. An opening meets 1 to 4 alone, a reader 5, a writer 10; 12 is met only where limits
+   are lent. */
 enum claim_tracker_number {
     CLAIM_TRACKER_ACCEPTED = 0,
     CLAIM_TRACKER_WRONG_LENGTH = 1,             /* calendar, tables or balances have another number of words */
     CLAIM_TRACKER_BAD_CALENDAR = 2,             /* the calendar has a bit for a day that the month lacks */
     CLAIM_TRACKER_BAD_TABLES = 3,               /* the tables break a rule */
+    CLAIM_TRACKER_BAD_LIMITS = 12,              /* the limits lent are not five, or break a rule */
     CLAIM_TRACKER_BAD_BOOK = 4,                 /* the day is not open or no open day follows it; a balance is above 9,000,000,000, or an
                                                    account's with itself is not 0 */
     CLAIM_TRACKER_BAD_RECORD = 5,               /* the record is cut short, or its length or kind is not the call's */
@@ -239,6 +248,8 @@ static inline const char *claim_tracker_text(unsigned int number) {
         return "the buffer is too short for the claims or the record";
     case CLAIM_TRACKER_COUNT_FULL:
         return "the transfer count is already 4,294,967,295";
+    case CLAIM_TRACKER_BAD_LIMITS:
+        return "the date limits have a wrong length or break a rule";
     case CLAIM_TRACKER_SEVERAL_TAGS:
         return "more than one Contract Date tag opens";
     case CLAIM_TRACKER_UNENDED_TAG:
@@ -347,6 +358,16 @@ struct claim_tracker_done claim_tracker_transfer(const uint32_t *calendar, size_
                                                  size_t table_words, struct claim_tracker_book book, uint64_t *balances,
                                                  size_t balance_words, const uint8_t *message, size_t message_bytes, uint8_t *claims,
                                                  size_t claim_bytes);
+
+/* Works a transfer as claim_tracker_transfer does, with limits of the caller's in place of the published numbers. They are judged whatever
+   the tracking code is. Refused: the number, the book given, no claims, and balances and claim buffer as they were. On 7, 6, 3, 2, 1 both
+   forms give and leave the same. */
+CLAIM_TRACKER_CALL CLAIM_TRACKER_NONNULL
+struct claim_tracker_done claim_tracker_transfer_with_limits(const uint32_t *calendar, size_t calendar_words, const uint32_t *tables,
+                                                             size_t table_words, const uint32_t *limits, size_t limit_words,
+                                                             struct claim_tracker_book book, uint64_t *balances, size_t balance_words,
+                                                             const uint8_t *message, size_t message_bytes, uint8_t *claims,
+                                                             size_t claim_bytes);
 
 /* Works the close at the message's start: moves the day to the next open day and writes the claims of the Record Dates crossed, of each
    first those of lending and then those of repo, from the claim buffer's start; the bytes behind them stay. Refused: the number, the book

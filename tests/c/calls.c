@@ -1,6 +1,6 @@
 /* Makes the calls that standard input lists, one a line, and prints what each answers and leaves. tests/python makes the same calls through
-   the Python module and compares. Bytes are hex, - for none; a buffer begins as bytes AA, and a line ends with checksums of it and of the
-   balances. */
+   the Python module and compares. Bytes are hex, limits have commas between them, and - is none of either; a buffer begins as bytes AA,
+   and a line ends with checksums of it and of the balances. */
 #define _POSIX_C_SOURCE 200809L
 #include <inttypes.h>
 #include <stdio.h>
@@ -37,6 +37,18 @@ static uint8_t *bytes(size_t *count) {
         made[i] = (uint8_t)byte;
     }
     return made;
+}
+
+/* The limits of a word, which the caller frees. */
+static uint32_t *limits_of(size_t *count) {
+    char *word = next();
+    uint32_t *made = malloc(sizeof *made * (strlen(word) + 1));
+    *count = 0;
+    if (strcmp(word, "-") == 0) return made;
+    for (;; word++) {
+        made[(*count)++] = (uint32_t)strtoull(word, &word, 10);
+        if (*word == '\0') return made;
+    }
 }
 
 static void line(uint8_t *made) {
@@ -76,13 +88,20 @@ static void print_left(size_t written) {
     free(buffer);
 }
 
-/* A transfer or a close, by value or on the own book. */
+/* A transfer or a close, by value or on the own book, or a transfer with limits. */
 static void call(const char *name) {
     uint16_t answer;
-    size_t claims, count;
+    size_t claims, count, limit_words = 0;
+    uint32_t *limits = strcmp(name, "transfer_with_limits") == 0 ? limits_of(&limit_words) : NULL;
     new_buffer();
     uint8_t *message = bytes(&count);
-    if (strcmp(name, "transfer") == 0 || strcmp(name, "close") == 0) {
+    if (limits != NULL) {
+        struct claim_tracker_done done = claim_tracker_transfer_with_limits(
+            calendar, calendar_words, tables, table_words, limits, limit_words, book, balances, balance_words, message, count, buffer, room);
+        answer = done.number;
+        claims = done.claims;
+        book = done.book;
+    } else if (strcmp(name, "transfer") == 0 || strcmp(name, "close") == 0) {
         struct claim_tracker_done done = (*name == 't' ? claim_tracker_transfer : claim_tracker_close)(
             calendar, calendar_words, tables, table_words, book, balances, balance_words, message, count, buffer, room);
         answer = done.number;
@@ -96,6 +115,7 @@ static void call(const char *name) {
     } else {
         exit(2);
     }
+    free(limits);
     free(message);
     printf("%s %u claims %zu", name, answer, claims);
     print_left(CLAIM_TRACKER_CLAIM_ROOM(claims));

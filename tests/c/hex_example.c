@@ -1,6 +1,6 @@
 /* Replays document 01's hex example through the exported functions: the book opened on 20230404 with the cases' tables, the first
    case's transfer from account 1 to 2, and all bytes that come out. Then the codecs both ways, two payments that wait for their Payment
-   Dates, an interim claim, a close, refusals, both calls on the caller's own book, a repo beside a loan, and half a book. */
+   Dates, an interim claim, a close, refusals, both calls on the caller's own book, a repo beside a loan, date limits, and half a book. */
 #include <stdio.h>
 #include <string.h>
 
@@ -46,6 +46,30 @@ static void case_tables(void) {
                                        0,        20230501, 20230501, 20230515, 5000000,  0,       0, 0};
     memset(tables, 0, sizeof tables);
     memcpy(tables, words, sizeof words);
+}
+
+/* Limits that break one rule each. */
+static const struct {
+    const char *name;
+    size_t words;
+    uint32_t limits[6];
+} broken[] = {
+    {"no limits", 0, {7, 6, 3, 2, 1}},
+    {"four limits", 4, {7, 6, 3, 2, 1}},
+    {"six limits", 6, {7, 6, 3, 2, 1, 1}},
+    {"an MBS limit of 0", 5, {0, 6, 3, 2, 1}},
+    {"an annual limit of 0", 5, {7, 6, 3, 2, 0}},
+    {"an MBS limit of 17", 5, {17, 6, 3, 2, 1}},
+    {"a monthly limit of 17", 5, {7, 17, 3, 2, 1}},
+    {"a quarterly limit above the monthly one", 5, {7, 6, 7, 2, 1}},
+    {"a semiannual limit above the quarterly one", 5, {7, 6, 3, 4, 1}},
+    {"an annual limit above the semiannual one", 5, {7, 6, 3, 2, 3}},
+};
+
+static struct claim_tracker_done with_limits(const uint32_t *limits, size_t limit_words, struct claim_tracker_book book,
+                                             const uint8_t *message, size_t message_bytes, uint8_t *claims, size_t claim_bytes) {
+    return claim_tracker_transfer_with_limits(calendar, 480, tables, 1824, limits, limit_words, book, balances, WORDS, message,
+                                              message_bytes, claims, claim_bytes);
 }
 
 static const uint8_t expected[41] = {0x21, 0x00, 0x03, 0x00, 0x01, 0x00, 0x01, 0x02, 0x00, 0x00, 0x01, 0x00, 0x00, 0x00,
@@ -218,10 +242,59 @@ int main(void) {
                                  && claim.claim.transfer == 0 && claim.claim.interest == 15000 && claim.claim.principal == 0
                                  && claim.claim.release == 20230417 && claim.claim.slot == 3 && two[70] == 0xaa);
 
+    static const uint32_t published[CLAIM_TRACKER_LIMIT_WORDS] = {7, 6, 3, 2, 1}, fewer[CLAIM_TRACKER_LIMIT_WORDS] = {1, 16, 16, 16, 16};
+    static uint64_t before[WORDS];
+    uint8_t fail[CLAIM_TRACKER_TRANSFER_BYTES], lent[sizeof two], untouched[sizeof two];
+    fields.code = CLAIM_TRACKER_CODE_NONE;
+    fields.par = 400000;
+    memcpy(first, "{98A:CNTR/20230315}", 19);
+    check("a fail is written", claim_tracker_write_transfer(fail, sizeof fail, fields, first, second) == 0);
+    book = claim_tracker_open(calendar, 480, tables, 1824, balances, WORDS, 20230509).book;
+    balances[16 * 1 + 2] = 15000;
+    memcpy(before, balances, sizeof before);
+    memset(untouched, 0xaa, sizeof untouched);
+    memcpy(two, untouched, sizeof two);
+    memcpy(lent, untouched, sizeof lent);
+    done = claim_tracker_transfer(calendar, 480, tables, 1824, book, balances, WORDS, fail, sizeof fail, two, sizeof two);
+    check("April and May by the published limits", done.number == 0 && done.book.count == 1 && done.claims == 2);
+    done = with_limits(published, 5, book, fail, sizeof fail, lent, sizeof lent);
+    check("the same where they are lent", done.number == 0 && done.book.day == 20230509 && done.book.count == 1 && done.claims == 2
+                                              && memcmp(lent, two, sizeof two) == 0);
+    memcpy(lent, untouched, sizeof lent);
+    done = with_limits(fewer, 5, done.book, fail, sizeof fail, lent, 35);
+    claim = claim_tracker_read_claim(lent, sizeof lent);
+    check("May alone by an MBS limit of 1", done.number == 0 && done.book.count == 2 && done.claims == 1 && claim.number == 0
+                                                && claim.claim.claim_type == CLAIM_TRACKER_CLAIM_TYPE_FAIL && claim.claim.row == 1
+                                                && claim.claim.transfer == 2 && claim.claim.interest == 200000
+                                                && claim.claim.release == 20230515 && claim.claim.slot == 3 && lent[35] == 0xaa);
+    memcpy(lent, untouched, sizeof lent);
+    for (size_t i = 0; i < sizeof broken / sizeof *broken; i++) {
+        done = with_limits(broken[i].limits, broken[i].words, book, fail, sizeof fail, lent, sizeof lent);
+        check(broken[i].name, done.number == CLAIM_TRACKER_BAD_LIMITS && done.book.day == 20230509 && done.book.count == 0
+                                  && done.claims == 0 && memcmp(lent, untouched, sizeof lent) == 0
+                                  && memcmp(balances, before, sizeof before) == 0);
+    }
+    done = with_limits(published, 0, book, message, sizeof message, lent, 0);
+    check("a loan with no limits", done.number == 12 && done.book.count == 0 && memcmp(balances, before, sizeof before) == 0);
+    done = with_limits(fewer, 5, book, message, sizeof message, lent, 0);
+    check("a loan with limits", done.number == 0 && done.book.count == 1 && done.claims == 0 && balances[16 * 1 + 2] == 30000);
+    book.day = 20230506;
+    done = with_limits(published, 5, book, fail, sizeof fail, lent, sizeof lent);
+    check("a closed day with limits", done.number == 4 && done.book.day == 20230506 && done.claims == 0);
+    done = with_limits(published, 4, book, fail, sizeof fail, lent, sizeof lent);
+    check("four limits before a closed day", done.number == 12 && done.book.day == 20230506 && done.claims == 0);
+    tables[0] = 5;
+    done = with_limits(published, 4, book, fail, sizeof fail, lent, sizeof lent);
+    check("bad tables before four limits", done.number == 3 && memcmp(lent, untouched, sizeof lent) == 0);
+    case_tables();
+
     book = claim_tracker_open(calendar, 480, tables, 1824, balances, WORDS, 20230331).book;
     check("half a book is not opened", claim_tracker_open(calendar, 480, tables, 1824, balances, REPO, 20230331).number == 1);
     check("nor takes it a transfer",
           claim_tracker_transfer(calendar, 480, tables, 1824, book, balances, REPO, message, sizeof message, two, sizeof two).number == 1);
+    check("nor one with limits",
+          claim_tracker_transfer_with_limits(calendar, 480, tables, 1824, published, 5, book, balances, REPO, message, sizeof message, two,
+                                             sizeof two).number == 1);
     check("nor a close", claim_tracker_close(calendar, 480, tables, 1824, book, balances, REPO, close, 4, two, sizeof two).number == 1);
     reply = claim_tracker_transfer_in(calendar, 480, tables, 1824, &book, balances, REPO, message, sizeof message, two, sizeof two);
     check("nor a transfer on the caller's book", reply.number == 1 && book.day == 20230331 && book.count == 0);

@@ -1,6 +1,6 @@
 """Document 01's cases that no theorem states, its mistakes to rule out, the fail, interim, repo and lending examples of source document 001
-(Clearing Memo 278), Attachment II, and the edges of the rules of interim claims, of pools that pay late and of repos beside loans, by the
-reference.
+(Clearing Memo 278), Attachment II, and the edges of the rules of interim claims, of pools that pay late, of repos beside loans and of date
+limits, by the reference.
 
     python3 case_runs.py REFERENCE_FOLDER STEPS_FILE
 
@@ -21,6 +21,10 @@ rules = cards.Rules(step_files.CARDS)
 steps = step_files.Steps(ref, rules)
 ROOM = 4096
 TRACKINGS = (("loan", 1), ("repo", 7))      # each with its first code
+PUBLISHED = (7, 6, 3, 2, 1)
+# Lists of limits that break one rule each.
+BROKEN = ((), (7, 6, 3, 2), (7, 6, 3, 2, 1, 1), (0, 6, 3, 2, 1), (17, 6, 3, 2, 1), (7, 17, 3, 2, 1), (7, 6, 3, 2, 0), (7, 6, 7, 2, 1),
+          (7, 6, 3, 4, 1), (7, 6, 3, 2, 3))
 W, X, Y, Z = 3, 0, 1, 2      # the memo's banks
 CALENDAR = mk.weekdays()
 
@@ -51,18 +55,22 @@ class Run:
         self.both = None
         steps.set_book(day, 0, [words.get(w, 0) for w in range(rules.words)])
 
-    def made(self, form, name, message, room):
-        result = getattr(steps, form)("%s-%s" % (self.name, name), message, room)
+    def made(self, name, result, tallied, *arguments):
+        """Shows what a call gave, which the tally's form of it has to give on the same arguments."""
         if self.both:
-            assert result == getattr(self.both, form)(steps.calendar, steps.tables, message, step_files.pattern(room)), name
+            assert result == tallied(self.both, steps.calendar, steps.tables, *arguments), name
             self.both.check_owed()
         self.show(name, result)
 
-    def transfer(self, name, *fields, room=ROOM, **more):
-        self.made("transfer", name, mk.transfer(*fields, **more), room)
+    def transfer(self, name, *fields, room=ROOM, limits=None, **more):
+        """A transfer, in the form with limits where some are given."""
+        step, message = "%s-%s" % (self.name, name), mk.transfer(*fields, **more)
+        result = steps.transfer(step, message, room) if limits is None else steps.transfer_with_limits(step, limits, message, room)
+        self.made(name, result, cards.Both.transfer, message, step_files.pattern(room), limits)
 
     def close(self, name, room=ROOM):
-        self.made("close", name, mk.close(), room)
+        result = steps.close("%s-%s" % (self.name, name), mk.close(), room)
+        self.made(name, result, cards.Both.close, mk.close(), step_files.pattern(room))
 
 
 def document_cases():
@@ -277,6 +285,47 @@ def repos():
         run.transfer("%s-beside-a-%s-at-the-limit" % (other, name), 1, 2, 0, 1, first)
 
 
+def limits_on_the_cases():
+    """Limits on the tables of the worked cases: one history with another list for each call, lists that break a rule among them, rooms, loans
+    and repos; then bad lists beside other causes."""
+    tables = mk.cases_tables()
+    run = Run("limits", 20230509, tables)
+
+    def fail(name, **more):
+        run.transfer(name, 1, 2, 0, 400_000, contract=20230315, **more)
+
+    fail("none")
+    for limits in (PUBLISHED, (16, 16, 16, 16, 16), (1, 6, 3, 2, 1), (1, 16, 16, 16, 16), (2, 3, 3, 3, 3), (1, 1, 1, 1, 1)) + BROKEN:
+        fail("-".join(map(str, limits)) or "empty", limits=limits)
+    fail("one-date-one-byte-short", limits=(1, 6, 3, 2, 1), room=34)
+    fail("one-date-exact-room", limits=(1, 6, 3, 2, 1), room=35)
+    for name, start in TRACKINGS:
+        run.transfer(name, 1, 2, 0, 5_000, start, limits=(1, 1, 1, 1, 1))
+        run.transfer(name + "-with-a-bad-list", 1, 2, 0, 5_000, start, limits=BROKEN[-1])
+    run.close("close")
+    fail("after-the-close", limits=(1, 6, 3, 2, 1))
+    fail("none-after-the-close")
+    run.save(20230506, {})
+    for name, more in (("none", {}), ("good-list", {"limits": PUBLISHED}), ("bad-list", {"limits": BROKEN[0]})):
+        fail(name + "-on-a-closed-day", **more)
+    steps.set_tables(CALENDAR, [5] + tables[1:])
+    fail("bad-list-and-bad-tables", limits=BROKEN[0])
+
+
+def limits_by_security():
+    """Nine rows of each type and frequency, pools that pay late and a row with an interim claim, in the form without limits, with more dates
+    than the published ones and with fewer."""
+    paid, late = rows_from(20230101, range(20230115, 20230916, 100)), rows_from(20230101, range(20240101, 20240902, 100))
+    interim_behind = paid + [ref.Row(20230918, 20231001, 20231015, 5_000_000, 0, 0, 0)]
+    securities = {"type-%d-frequency-%d" % (kind, frequency): (kind, frequency, paid) for kind, frequency in (
+        (1, 1), (2, 1), (1, 2), (2, 2), (1, 3), (2, 3), (1, 4), (2, 4), (3, 1), (4, 4))} | {
+        "late": (3, 1, late), "one-paid": (4, 2, changed(late, 2, payment=20230901)), "interim-behind": (3, 3, interim_behind)}
+    run = Run("limits-by-security", 20230920, mk.tables_of({s: mk.security(*found) for s, found in enumerate(securities.values())}))
+    for name, limits in (("none", None), ("more", (9, 8, 4, 3, 2)), ("fewer", (3, 5, 2, 1, 1))):
+        for s, security in enumerate(securities):
+            run.transfer("%s-%s" % (security, name), X, Y, s, 100_000, contract=20221230, limits=limits)
+
+
 document_cases()
 mistakes()
 memo_fails()
@@ -286,4 +335,6 @@ long_delay()
 memo_balances("lending", 1, 30_000)
 memo_balances("repo", 7, 40_000)
 repos()
+limits_on_the_cases()
+limits_by_security()
 steps.write(sys.argv[2])

@@ -32,6 +32,10 @@ def transfer(name, room, *fields, **more):
     show(name, steps.transfer(name, mk.transfer(*fields, **more), room))
 
 
+def transfer_with_limits(name, limits, room, *fields, **more):
+    show(name, steps.transfer_with_limits(name, limits, mk.transfer(*fields, **more), room))
+
+
 def close(name, room):
     show(name, steps.close(name, mk.close(), room))
 
@@ -164,9 +168,33 @@ def all_waiting():
             transfer("%s-%d-bytes" % (name, room), room, 0, 15, security, 100_000_000, contract=20240101)
 
 
+def date_limits():
+    """Limits from 1 to 16 on sixteen rows: all paid, in an MBS and in an annual Treasury, then all waiting. Then the largest number in each
+    place and in all, and sixteen numbers."""
+    rows = [ref.Row(20240101 + r, 20240201 + r, 20240220, FACTOR - r, r, 0, 0) for r in range(16)]
+    late = [row._replace(payment=20391230) for row in rows]
+    steps.set_tables(mk.weekdays(), mk.tables_of({s: mk.security(kind, 4, found) for s, (kind, found) in enumerate(
+        ((4, rows), (1, rows), (3, late)))}))
+    steps.set_book(20240220, 0, balances_of())
+
+    def fail(name, numbers, room, security=0):
+        transfer_with_limits(name, numbers, room, 0, 15, security, 100_000_000, contract=20240101)
+
+    for security, name, before, behind, most in ((0, "mbs", (), (1, 1, 1, 1), 16), (1, "annual", (1, 16, 16, 16), (), 16),
+                                                 (2, "late", (), (16, 16, 16, 16), 1)):
+        for n in (1, 2, 15, 16):
+            for room in (35 * min(n, most) - 1, 35 * min(n, most)):
+                fail("%s-limit-%d-%d-bytes" % (name, n, room), (*before, n, *behind), room, security)
+    for place in range(5):
+        fail("largest-number-in-place-%d" % place, [4_294_967_295 if i == place else 16 for i in range(5)], 560)
+    fail("largest-numbers", [4_294_967_295] * 5, 560)
+    fail("sixteen-numbers", [1] * 16, 560)
+
+
 largest_amounts()
 last_days()
 every_row()
 most_claims()
 all_waiting()
+date_limits()
 steps.write(sys.argv[2])

@@ -2,11 +2,12 @@
 
     python3 pick_calls.py REFERENCE_FOLDER SEED COUNT FOLDER
 
-makes random calls by the reference's make_calls.py, and a call of each kind on half a book, and writes COUNT of them to FOLDER/calls.in,
-with what they should give in FOLDER/calls.expected (the format is that of make_calls.py; crates/call_files/src/entries.rt reads it). It
-takes first the calls that show something of what is wanted (step_files.wanted and REPOS) that no call before them shows, then those that
-show an answer to another kind of call or a part of wrong length that none before them shows, then others in their order, those with claims
-first; none with a large claim buffer. It prints what the calls cover, and fails where something that is wanted is missing.
+makes random calls by the reference's make_calls.py, some of them once more with half a book or with other limits, and writes COUNT of them
+to FOLDER/calls.in, with what they should give in FOLDER/calls.expected (the format is that of make_calls.py;
+crates/call_files/src/entries.rt reads it). It takes first calls that show what is wanted (step_files.wanted, REPOS and LIMITS), always the
+one that shows most of what is left, then likewise calls that show all answers to each kind of call and all parts of wrong length, then
+others in their order, those with claims first; none with a large claim buffer. It prints what the calls cover, and fails where something
+that is wanted is missing.
 """
 import collections
 import os
@@ -17,14 +18,26 @@ import step_files
 folder, seed, count, out = sys.argv[1], sys.argv[2], int(sys.argv[3]), sys.argv[4]
 ref, cards, make_calls = step_files.reference_modules(folder, "reference", "cards", "make_calls")
 
-CALLS = ("open", "transfer", "close", "transfer with limits or denominations", "carry over", "set a checkpoint",
-         "return to a checkpoint", "forecast", "explain", "transfer on one of several books", "close on one of several books")
-ONE_BOOK = (0, 1, 2, 3)
+CALLS = ("open", "transfer", "close", "transfer with limits", "carry over", "set a mark", "go back to a mark", "forecast", "explain",
+         "transfer on one of several books", "close on one of several books")
+ONE_BOOK, WITH_LIMITS = (0, 1, 2, 3), 3
 NUMBERS = step_files.in_force(step_files.ANSWERS)
 # What calls show of the words of repos: repo_facts.
-REPOS = {("repos", "cleared", "open")} | {("repos", "half a book", call) for call in CALLS[:3]} | {
-    ("repos", fact, call) for fact in ("past the limit", "with itself") for call in CALLS[1:3]}
-WANTED = step_files.wanted(NUMBERS) | REPOS
+REPOS = {("repos", "cleared", "open")} | {("repos", "half a book", call) for call in CALLS[:4]} | {
+    ("repos", fact, call) for fact in ("past the limit", "with itself") for call in CALLS[1:4]}
+# Lists of limits that break one rule each: the length, the range, the order. In their order only MBS and annual can be 0 alone, and only
+# MBS and monthly above 16.
+PUBLISHED = [7, 6, 3, 2, 1]
+BROKEN = ([], [7, 6, 3, 2], [7, 6, 3, 2, 1, 1], [0, 6, 3, 2, 1], [7, 6, 3, 2, 0], [17, 6, 3, 2, 1], [7, 17, 3, 2, 1], [7, 6, 7, 2, 1],
+          [7, 6, 3, 4, 1], [7, 6, 3, 2, 3])
+MORE, FEWER = [9, 8, 4, 3, 2], [6, 5, 2, 1, 1]
+SECURITIES = ("MBS", "monthly", "quarterly", "semiannual", "annual")    # by the place of their limit
+# What calls show of limits: limit_facts. No list gives annual securities fewer dates than the published one.
+LIMITS = {("limits", "broken", *limits) for limits in BROKEN} | {("limits", name) for name in (
+    "12 before 4", "3 before 12", "12 with a loan code", "loan code", "monthly above MBS", "one", "sixteen", "cut among more",
+    "cut among fewer")} | {("limits", fact, name) for fact in ("its own", "more", "fewer") for name in SECURITIES} - {
+    ("limits", "fewer", "annual")} | {("limits", "type", n) for n in range(1, 5)}
+WANTED = step_files.wanted(NUMBERS) | REPOS | LIMITS
 LARGEST_BUFFER = 4096
 CANDIDATES = 40 * count
 LENGTHS = {"calendar": 480, "tables": 1824, "balances": cards.Rules(step_files.CARDS).words, "limits": 5, "pieces": 16}
@@ -50,6 +63,63 @@ def repo_facts(call, result) -> set:
     return {("repos", fact, CALLS[call["kind"]]) for fact in facts}
 
 
+def claimed(call, transfer, limits) -> list:
+    """The claims of a transfer with these limits, whatever room there is."""
+    return cards.Rules(step_files.CARDS).transfer_claims(call["calendar"], call["tables"], call["day"], 1, transfer, limits)
+
+
+def first_waiting(call, transfer, limits):
+    """The first row that waits of those that a fail with these limits reaches, before any is dropped."""
+    contract = cards.Rules(step_files.CARDS).contract(transfer, call["day"])
+    if contract is None:
+        return None
+    rows = cards.Rules(1).fail_rows(call["tables"], transfer.security, call["day"], contract, limits)
+    return next((r for r, row in rows if row.payment > call["day"]), None)
+
+
+def accepted_facts(call, transfer) -> set:
+    """What an accepted transfer shows of its limits: claims other than those that other numbers give."""
+    limits, (kind, frequency) = call["limits"], call["tables"][114 * transfer.security:][:2]
+    place = 0 if kind in cards.MBS else frequency
+    found, published = claimed(call, transfer, limits), claimed(call, transfer, None)
+
+    def differs(number) -> bool:
+        return claimed(call, transfer, [number] * 5) != found
+
+    facts = {("limits", name) for name, holds in {
+        "loan code": transfer.code and limits != PUBLISHED,
+        "monthly above MBS": limits[1] > limits[0],
+        "one": limits[place] == 1 and differs(2),
+        "sixteen": limits[place] == 16 and differs(15)}.items() if holds}
+    if all(differs(number) for number in limits[:place] + limits[place + 1:]):
+        facts.add(("limits", "its own", SECURITIES[place]))
+    if found != published:
+        facts.add(("limits", "type", kind))
+    if len(found) != len(published):
+        facts.add(("limits", "more" if len(found) > len(published) else "fewer", SECURITIES[place]))
+    if place == 0 and transfer.code == 0:
+        first = [first_waiting(call, transfer, numbers) for numbers in (limits, None)]
+        if None not in first and first[0] != first[1]:
+            facts.add(("limits", "cut among more" if first[0] < first[1] else "cut among fewer"))
+    return facts
+
+
+def limit_facts(call, result, answer) -> set:
+    """What a transfer with limits shows of them. answer: its number with other arguments."""
+    unread, transfer = ref.read_record(ref.TRANSFER, call["message"])
+    facts = set()
+    if result.number == 3 and cards.Rules.bad_limits(call["limits"]):
+        facts.add(("limits", "3 before 12"))
+    if result.number == 12:
+        rest = answer(limits=PUBLISHED)
+        facts |= {("limits", "broken", *call["limits"])} if call["limits"] in BROKEN else set()
+        facts |= {("limits", "12 before 4")} if rest == 4 else set()
+        facts |= {("limits", "12 with a loan code")} if rest == 0 and transfer.code else set()
+    if result.number == 0:
+        facts |= accepted_facts(call, transfer)
+    return facts
+
+
 def shown(call, result) -> set:
     """What a call shows."""
     claims = [(claim.claim_type, claim.outcome, claim.slot) for claim in ref.read_claims(result.buffer, result.claims)]
@@ -64,35 +134,65 @@ def shown(call, result) -> set:
         facts |= step_files.transfer_facts(ref, cards, call, result, answer)
     if call["kind"] == 2:
         facts |= step_files.close_facts(ref, cards, call, result, answer)
+    if call["kind"] == WITH_LIMITS and call["limits"] is not None:
+        facts |= limit_facts(call, result, answer)
     if result.claims:
         facts.add(("buffer", CALLS[call["kind"]], min(2, len(result.buffer) - 35 * result.claims)))
     return facts
 
 
 def candidates():
-    """Random calls, the first accepted one of each kind once more with half a book."""
-    accepted = set()
+    """Random calls. Once more come the first accepted one of each kind with half a book, the first accepted transfer with limits with lists
+    that break one rule, and accepted transfers with more or fewer dates than the published ones, and room for their claims, that show
+    something of limits that none of these before them shows."""
+    accepted, facts = set(), set()
     for i in range(CANDIDATES):
         call = make_calls.call_of(seed, i, step_files.CARDS)
+        kind = call["kind"]
         yield call
-        if call["kind"] in ONE_BOOK and call["kind"] not in accepted and make_calls.run(call).number == 0:
-            accepted.add(call["kind"])
+        if kind not in ONE_BOOK or make_calls.run(call).number:
+            continue
+        if kind not in accepted:
+            accepted.add(kind)
             yield dict(call, balances=call["balances"][:step_files.REPO_AT])
+            for limits in BROKEN if kind == WITH_LIMITS else ():
+                yield dict(call, limits=limits)
+        for limits in (MORE, FEWER, [16] * 5) if kind in (1, WITH_LIMITS) else ():
+            again = dict(call, kind=WITH_LIMITS, limits=limits, buffer=step_files.pattern(16 * ref.CLAIM_SIZE))
+            more = accepted_facts(again, ref.read_record(ref.TRANSFER, call["message"])[1]) - facts
+            facts |= more
+            if more:
+                yield again
+
+
+def wanted_parts(facts) -> set:
+    """What is wanted of these facts."""
+    return step_files.parts_of(facts) & WANTED
+
+
+def covering(entries, part) -> list:
+    """Entries that together show what all of them show of this part of the facts."""
+    parts = {entry[0]: part(entry[3]) for entry in entries}
+    taken, left = [], set().union(*parts.values())
+    while left:
+        taken.append(max(entries, key=lambda entry: (len(parts[entry[0]] & left), -entry[0])))
+        left -= parts[taken[-1][0]]
+    return taken
 
 
 def picked() -> list:
     """(place, call, result, what it shows), in the order of their places."""
-    seen, ranked = set(), []
+    entries = []
     for i, call in enumerate(candidates()):
-        if len(call.get("buffer", b"")) > LARGEST_BUFFER:
-            continue
-        result = make_calls.run(call)
-        facts = shown(call, result)
-        rank = (step_files.parts_of(facts) & WANTED <= step_files.parts_of(seen)) + (facts <= seen)
-        ranked.append((rank, rank == 2 and not result.claims, i, call, result, facts))
-        seen |= facts
-    ranked.sort(key=lambda entry: entry[:3])
-    return sorted((entry[2:] for entry in ranked[:count]), key=lambda entry: entry[0])
+        if len(call.get("buffer", b"")) <= LARGEST_BUFFER:
+            result = make_calls.run(call)
+            entries.append((i, call, result, shown(call, result)))
+    first = covering(entries, wanted_parts)
+    covered = set().union(*(facts for _, _, _, facts in first))
+    first += covering(entries, lambda facts: facts - covered)
+    places = {entry[0] for entry in first}
+    others = sorted((entry for entry in entries if entry[0] not in places), key=lambda entry: (not entry[2].claims, entry[0]))
+    return sorted((first + others)[:count], key=lambda entry: entry[0])
 
 
 calls = picked()

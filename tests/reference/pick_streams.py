@@ -17,7 +17,7 @@ import step_files
 
 folder, seed, count, out = sys.argv[1], sys.argv[2], int(sys.argv[3]), sys.argv[4]
 ref, mk, cards, claimrun = step_files.reference_modules(folder, "reference", "makebook", "cards", "claimrun")
-# Answers that no stream gets: 11 needs 4,294,967,295 transfers before it, claimrun lends no limits (12) and ones as denominations (13, 14),
+# Answers that no stream gets: 11 needs 4,294,967,295 transfers before it, claimrun lends no limits (12) and ones as pieces (13, 14),
 # and 16 to 21 are those of calls that it does not make.
 NEVER = {11, 12, 13, 14, *range(16, 22)}
 NUMBERS = step_files.in_force(step_files.ANSWERS) - NEVER

@@ -8,8 +8,10 @@ import os
 import struct
 import sys
 
-CARDS = 3                       # the last of document 02's cards in force that changes an answer
-OPEN, TRANSFER, CLOSE, TABLES, BOOK = range(5)
+CARDS = 5                       # the last of document 02's cards in force that changes an answer
+# The kinds of steps: the calls, as in files of calls, and what sets calendar and tables or the book.
+OPEN, TRANSFER, CLOSE, TRANSFER_WITH_LIMITS = range(4)
+TABLES, BOOK = 128, 129
 MODULUS = 4294967291
 REPO_AT = 4096                  # the first word of repos
 
@@ -25,7 +27,7 @@ TOGETHER = {("together", 1, 1): 0, ("together", 1, 2): 1, ("together", 2, 2): 1,
             ("together", 4, 4): 3}
 # What a failed transfer shows of rows that wait. A row waits where its Payment Date is after the day S; C is the Contract Date.
 WAITING = {("waiting", name): 2 for name in (
-    "dropped", "paid kept behind", "paid on S", "another up to C", "no room for an eighth", "types 1 and 2 uncut")}
+    "dropped", "paid kept behind", "paid on S", "another up to C", "no room for another", "types 1 and 2 uncut")}
 # Loans and repos: an edit of the tag; no claim with a tag with which code 0 would give claims; an answer to an increase or a decrease that
 # would be another one on the other's balance.
 TRACKINGS = {"loan": 0, "repo": 3}
@@ -96,7 +98,7 @@ def waiting_facts(cards, tables, day: int, transfer, limits=None) -> set:
                  "paid kept behind": waiting and any(row.payment <= day for row in claimed[claimed.index(waiting[0]):]),
                  "paid on S": waiting and any(row.payment == day for row in claimed),
                  "another up to C": waiting and any(row.payment > day for row in recent if row.beneficiary <= contract),
-                 "no room for an eighth": dropped and any(contract < row.beneficiary for row in reached[:-len(recent)])}
+                 "no room for another": dropped and any(contract < row.beneficiary for row in reached[:-len(recent)])}
     return {("waiting", name) for name, holds in shown.items() if holds}
 
 
@@ -203,9 +205,10 @@ class Steps:
         self.calendar, self.tables = [0] * 480, [0] * 1824
         self.book, self.balances = ref.Book(0, 0), [0] * rules.words
 
-    def add(self, kind: int, name: str, message: bytes, room: int = 0) -> None:
+    def add(self, kind: int, name: str, message: bytes, room: int = 0, lent: bytes = b"") -> None:
+        """A step, with the bytes of what a call of its kind alone is lent behind it."""
         self.steps.append(struct.pack("<BB", kind, len(name)) + name.encode()
-                          + struct.pack("<I", len(message)) + message + struct.pack("<I", room))
+                          + struct.pack("<I", len(message)) + message + struct.pack("<I", room) + lent)
 
     def set_tables(self, calendar, tables) -> None:
         """No step where they stand already."""
@@ -232,6 +235,10 @@ class Steps:
     def transfer(self, name: str, message: bytes, room: int):
         self.add(TRANSFER, name, message, room)
         return self.done(self.rules.transfer(self.calendar, self.tables, self.book, self.balances, message, pattern(room)))
+
+    def transfer_with_limits(self, name: str, limits, message: bytes, room: int):
+        self.add(TRANSFER_WITH_LIMITS, name, message, room, struct.pack("<I%dI" % len(limits), len(limits), *limits))
+        return self.done(self.rules.transfer(self.calendar, self.tables, self.book, self.balances, message, pattern(room), limits=limits))
 
     def close(self, name: str, message: bytes, room: int):
         self.add(CLOSE, name, message, room)
