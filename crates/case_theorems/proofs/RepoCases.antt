@@ -35,7 +35,7 @@ calls =
     ∷ []
 
 -- the calls that were answered with number 0
-kept : List Answer → List Call → List Call
+unfoldable pub kept : List Answer → List Call → List Call
 kept [] [] = []
 kept [] (call ∷ rest) = []
 kept (a ∷ answers) [] = []

@@ -8,6 +8,7 @@ pub mod Once
 pub mod Theorem
 pub mod Rows
 pub mod RepoRows
+pub mod LimitRows
 pub mod Answers
 pub mod StaysSound
 pub mod Continuation
