@@ -8,13 +8,14 @@ use lib.Dec.{eqb}
 use lib.ListN.{set}
 use Rattle.days.specs.Weekdays.{weekdays}
 use Rattle.securities.specs.Cases.{caseTables}
-use Rattle.claims.specs.Amounts.{ofInterest, Parties}
+use Rattle.securities.proofs.LentRows.{five}
+use Rattle.claims.specs.Amounts.{ofInterest}
 use Rattle.history.specs.Calls.{Call}
 use Rattle.history.specs.Results.{opened, runFrom}
 use Rattle.history.specs.Owed.{owed}
 use Rattle.history.specs.Statement.{recordsIn, paid, ofRow, ofAll}
-use Rattle.history.proofs.Rows.{tagLine, blank, sent, zeros, sevens, entries, counted, sameNumbers, openedRows}
-use Rattle.history.proofs.LimitRows.{five, lent}
+use Rattle.history.proofs.Rows.{tagLine, blank, sent, zeros, sevens, entries, counted, sameNumbers, senderToReceiver, openedRows}
+use Rattle.history.proofs.LimitRows.{lent}
 use Rattle.case_theorems.proofs.RepoCases.{kept}
 
 failed : Call
@@ -35,10 +36,6 @@ calls =
 -- number and claim count of each answer
 numbers : List ℕ
 numbers = 0 ∷ 2 ∷ 0 ∷ 1 ∷ 12 ∷ 0 ∷ 0 ∷ 2 ∷ 10 ∷ 0 ∷ 0 ∷ 1 ∷ 0 ∷ 0 ∷ []
-
--- from account 1 to account 2 in security 0
-senderToReceiver : Parties
-senderToReceiver = record { security = 0; payee = 2; payer = 1 }
 
 -- April is claimed twice, May four times, 200,000 cents each
 history : Bool

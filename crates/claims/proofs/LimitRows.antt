@@ -9,13 +9,11 @@ use Rattle.lists.specs.Tabulate.{each}
 use Rattle.days.specs.Weekdays.{weekdays}
 use Rattle.records.specs.MessageRecords.{transferOf}
 use Rattle.securities.specs.Cases.{caseTables}
+use Rattle.securities.proofs.LentRows.{five}
 use Rattle.claims.specs.Fails.{messageTag, transferClaims}
 use Rattle.claims.proofs.Opened.{openedClaims}
 use Rattle.claims.proofs.Rows.{tagLine, blank, sentIn, sent, TransferRow, lentRow, row, sameBytes, claimed}
 use Rattle.claims.proofs.DelayRows.{delays}
-
-abbrev five : ℕ → ℕ → ℕ → ℕ → ℕ → List ℕ
-five mbs monthly quarterly semiannual annual = mbs ∷ monthly ∷ quarterly ∷ semiannual ∷ annual ∷ []
 
 -- ---- the case of April and May, two claims
 

@@ -7,13 +7,11 @@ use lib.ListN.{replicate, set}
 use Rattle.lists.specs.All.{all}
 use Rattle.days.specs.Weekdays.{weekdays}
 use Rattle.securities.specs.Cases.{caseTables}
+use Rattle.securities.proofs.LentRows.{five}
 use Rattle.history.specs.Calls.{Call, transfer, close}
 use Rattle.history.proofs.Rows.{tagLine, blank, sent, closing, zeros, held, CauseRow, row, numbered, openedRows}
 
--- five numbers, and a transfer that is lent them
-abbrev pub five : ℕ → ℕ → ℕ → ℕ → ℕ → List ℕ
-five mbs monthly quarterly semiannual annual = mbs ∷ monthly ∷ quarterly ∷ semiannual ∷ annual ∷ []
-
+-- a transfer, lent limits
 unfoldable pub lent : List ℕ → Call → Call
 lent limits (transfer a) = transfer (record { message = a .message; buffer = a .buffer; limits = limits })
 lent limits (close a) = close a

@@ -286,7 +286,7 @@ counted [] = []
 counted (a ∷ answers) = a .number ∷ a .claims ∷ counted answers
 
 -- from account 1 to account 2 in security 0
-senderToReceiver : Parties
+unfoldable pub senderToReceiver : Parties
 senderToReceiver = record { security = 0; payee = 2; payer = 1 }
 
 -- two interim claims, then a fail claim and two interim claims, are paid and owed, each row by its own

@@ -7,7 +7,8 @@ use Rattle.lists.specs.All.{all}
 use Rattle.securities.specs.Lent.{goodLimits}
 use Rattle.securities.proofs.Opened.{openedSecurities}
 
-abbrev five : ℕ → ℕ → ℕ → ℕ → ℕ → List ℕ
+-- five limits, in their order
+abbrev pub five : ℕ → ℕ → ℕ → ℕ → ℕ → List ℕ
 five mbs monthly quarterly semiannual annual = mbs ∷ monthly ∷ quarterly ∷ semiannual ∷ annual ∷ []
 
 -- the published numbers; the smallest and the largest; MBS below and above the others; each number the same as the one before
