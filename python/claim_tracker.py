@@ -1,7 +1,7 @@
 """The claim tracker in Python: the calls, records and numbers of claim_tracker.h, by the shared library.
 
-Calendar and tables are array('I'), balances array('Q'), buffers that a call writes to bytearray, and messages bytes; other objects that
-give such memory will do. A refused call answers its number. A wrong type, a value that its field cannot hold, a buffer that cannot be
+Calendar, tables and limits are array('I'), balances array('Q'), buffers that a call writes to bytearray, and messages bytes; other objects
+that give such memory will do. A refused call answers its number. A wrong type, a value that its field cannot hold, a buffer that cannot be
 written to or buffers that overlap raise TypeError or ValueError, and nothing is called. FORMATS.md says what the words and bytes mean.
 
 The library is the file that the environment variable CLAIM_TRACKER_LIBRARY names, else libclaim_tracker.so.1 beside this module.
@@ -14,7 +14,7 @@ from dataclasses import dataclass
 from enum import IntEnum
 from typing import NamedTuple
 
-__version__ = "1.3.1"
+__version__ = "1.4.0"
 
 ACCOUNTS = 16
 SECURITIES = 16
@@ -23,6 +23,7 @@ ROW_WORDS = 7
 SECURITY_WORDS = 114
 CALENDAR_WORDS = 480
 TABLE_WORDS = 1824
+LIMIT_WORDS = 5
 BALANCE_WORDS = 8192
 TRANSFER_BYTES = 141
 CLOSE_BYTES = 4
@@ -43,6 +44,7 @@ class Number(IntEnum):
     WRONG_LENGTH = 1
     BAD_CALENDAR = 2
     BAD_TABLES = 3
+    BAD_LIMITS = 12
     BAD_BOOK = 4
     BAD_RECORD = 5
     BAD_FIELD = 6
@@ -143,6 +145,7 @@ _TEXTS = {
     Number.LAST_DAY: "a close with no open day after the next",
     Number.NO_ROOM: "the buffer is too short for the claims or the record",
     Number.COUNT_FULL: "the transfer count is already 4,294,967,295",
+    Number.BAD_LIMITS: "the date limits have a wrong length or break a rule",
     Number.SEVERAL_TAGS: "more than one Contract Date tag opens",
     Number.UNENDED_TAG: "a Contract Date tag without } in its line",
     Number.TAG_WITHOUT_DATE: "the Contract Date tag holds no date",
@@ -266,6 +269,7 @@ _LENT = (ctypes.c_void_p, _SIZE)
 _FUNCTIONS = {
     "open": (_DONE, *_LENT, *_LENT, *_LENT, _U32),
     "transfer": (_DONE, *_LENT, *_LENT, _BOOK, *_LENT, *_LENT, *_LENT),
+    "transfer_with_limits": (_DONE, *_LENT, *_LENT, *_LENT, _BOOK, *_LENT, *_LENT, *_LENT),
     "close": (_DONE, *_LENT, *_LENT, _BOOK, *_LENT, *_LENT, *_LENT),
     "transfer_in": (_REPLY, *_LENT, *_LENT, ctypes.POINTER(_BOOK), *_LENT, *_LENT, *_LENT),
     "close_in": (_REPLY, *_LENT, *_LENT, ctypes.POINTER(_BOOK), *_LENT, *_LENT, *_LENT),
@@ -418,20 +422,20 @@ def open(calendar, tables, balances, day):
     return _done(_CALLS["open"](*given, _whole("day", day, _U32)))
 
 
-def _arguments(calendar, tables, book, balances, message, claims):
-    """The arguments of a transfer or a close, without those of the book, and the book."""
-    lent = _apart(_Lent("calendar", calendar, _U32), _Lent("tables", tables, _U32), _Lent("balances", balances, _U64, True),
+def _arguments(words, book, balances, message, claims):
+    """The arguments of a transfer or a close before the book, the book, and those behind it. Words are those of 32 bits by their names."""
+    lent = _apart(*(_Lent(name, given, _U32) for name, given in words.items()), _Lent("balances", balances, _U64, True),
                   _Lent("message", message, _U8), _Lent("claims", claims, _U8, True))
-    return lent[:4], _fields("book", Book, _BOOK, book), lent[4:]
+    return lent[:2 * len(words)], _fields("book", Book, _BOOK, book), lent[2 * len(words):]
 
 
-def _by_value(name, *arguments):
-    before, book, behind = _arguments(*arguments)
+def _by_value(name, words, *arguments):
+    before, book, behind = _arguments(words, *arguments)
     return _done(_CALLS[name](*before, book, *behind))
 
 
-def _on_own_book(name, calendar, tables, book, *arguments):
-    before, own, behind = _arguments(calendar, tables, book, *arguments)
+def _on_own_book(name, words, book, *arguments):
+    before, own, behind = _arguments(words, book, *arguments)
     answer = _CALLS[name](*before, ctypes.byref(own), *behind)
     book.day, book.count = own.day, own.count
     return Reply(Number(answer.number), answer.claims)
@@ -439,22 +443,28 @@ def _on_own_book(name, calendar, tables, book, *arguments):
 
 def transfer(calendar, tables, book, balances, message, claims):
     """Works a transfer: posts its par and writes its fail and interim claims from the start of claims. The book given is not changed."""
-    return _by_value("transfer", calendar, tables, book, balances, message, claims)
+    return _by_value("transfer", {"calendar": calendar, "tables": tables}, book, balances, message, claims)
+
+
+def transfer_with_limits(calendar, tables, limits, book, balances, message, claims):
+    """Works a transfer with other maximum numbers of Beneficiary Dates than the published 7, 6, 3, 2, 1: those of MBS, then of monthly,
+    quarterly, semiannual and annual securities."""
+    return _by_value("transfer_with_limits", {"calendar": calendar, "tables": tables, "limits": limits}, book, balances, message, claims)
 
 
 def close(calendar, tables, book, balances, message, claims):
     """Works a close: the day moves to the next open day, and its lending and repo claims are written from the start of claims."""
-    return _by_value("close", calendar, tables, book, balances, message, claims)
+    return _by_value("close", {"calendar": calendar, "tables": tables}, book, balances, message, claims)
 
 
 def transfer_in(calendar, tables, book, balances, message, claims):
     """Works a transfer on the caller's own book, which is updated."""
-    return _on_own_book("transfer_in", calendar, tables, book, balances, message, claims)
+    return _on_own_book("transfer_in", {"calendar": calendar, "tables": tables}, book, balances, message, claims)
 
 
 def close_in(calendar, tables, book, balances, message, claims):
     """Works a close on the caller's own book, which is updated."""
-    return _on_own_book("close_in", calendar, tables, book, balances, message, claims)
+    return _on_own_book("close_in", {"calendar": calendar, "tables": tables}, book, balances, message, claims)
 
 
 def serve(calendar, tables, book, balances, input, ended, output):

@@ -2,7 +2,7 @@
 use crate::inputs::{self, World};
 use crate::random::Random;
 use crate::tracker;
-use bench::rules::{self, RECORD_ROOM};
+use bench::rules::{self, Book, RECORD_ROOM};
 use std::collections::BTreeMap;
 use std::fmt::Debug;
 use std::ops::RangeInclusive;
@@ -16,6 +16,9 @@ const PAID_BEHIND: &str = "fail, paid behind";
 const REPO_CLAIM: &str = "repo claim, outcome";
 const ROWS_OF_BOTH: &str = "close, rows of both";
 const REPO_TRANSFER: &str = "transfer, repo";
+const WITH_LIMITS: &str = "transfer with limits";
+const MORE_BY_LIMITS: &str = "limits, claims more";
+const FEWER_BY_LIMITS: &str = "limits, claims fewer";
 
 /// How often each kind of input got each number.
 type Tally = BTreeMap<(&'static str, u16), u64>;
@@ -87,6 +90,15 @@ fn count_rows_of_both(claims: &[u8], tally: &mut Tally) {
     *tally.entry((ROWS_OF_BOTH, rows as u16)).or_default() += 1;
 }
 
+/// Counts a transfer without a tracking code by how many claims more or fewer its limits give than the published numbers. It leaves the
+/// balances as they are.
+fn count_by_limits(world: &World, book: Book, balances: &mut [u64], message: &[u8], claims: usize, tally: &mut Tally) {
+    let mut room = [0; 16 * CLAIM_BYTES];
+    let published = rules::transfer(&world.calendar, &world.tables, book, balances, message, &mut room).claims;
+    let name = if claims < published { FEWER_BY_LIMITS } else { MORE_BY_LIMITS };
+    *tally.entry((name, claims.abs_diff(published) as u16)).or_default() += 1;
+}
+
 /// A call on the same book from both, again and again on what the last one left.
 fn compare_calls(random: &mut Random, tally: &mut Tally) -> Result<(), String> {
     let world = inputs::world(random);
@@ -95,6 +107,7 @@ fn compare_calls(random: &mut Random, tally: &mut Tally) -> Result<(), String> {
     for _ in 0..random.pick(&[1, 1, 3, 40]) {
         let closing = random.one_in(3);
         let message = inputs::message(random, book.day, closing);
+        let limits = random.one_in(2).then(|| inputs::limits(random));
         let mut our_claims = inputs::buffer(random);
         let mut their_claims = our_claims.clone();
         let World { calendar, tables, .. } = &world;
@@ -102,6 +115,10 @@ fn compare_calls(random: &mut Random, tally: &mut Tally) -> Result<(), String> {
             let library = tracker::close(calendar, tables, book, &mut ours, &message, &mut our_claims);
             let rust = rules::close(calendar, tables, book, &mut theirs, &message, &mut their_claims);
             ("close", library, rust)
+        } else if let Some(limits) = &limits {
+            let library = tracker::transfer_with_limits(calendar, tables, limits, book, &mut ours, &message, &mut our_claims);
+            let rust = rules::transfer_with_limits(calendar, tables, limits, book, &mut theirs, &message, &mut their_claims);
+            (WITH_LIMITS, library, rust)
         } else {
             let library = tracker::transfer(calendar, tables, book, &mut ours, &message, &mut our_claims);
             let rust = rules::transfer(calendar, tables, book, &mut theirs, &message, &mut their_claims);
@@ -118,6 +135,9 @@ fn compare_calls(random: &mut Random, tally: &mut Tally) -> Result<(), String> {
             count_rows_of_both(claims, tally);
         } else if let Some(7..=12) = message.get(8) {
             *tally.entry((REPO_TRANSFER, library.number)).or_default() += 1;
+        }
+        if name == WITH_LIMITS && library.number == 0 && message[8] == 0 {
+            count_by_limits(&world, book, &mut theirs, &message, library.claims, tally);
         }
         book = library.book;
     }
@@ -168,7 +188,8 @@ fn compare_serve(random: &mut Random, tally: &mut Tally) -> Result<(), String> {
 }
 
 /// What a comparison of many inputs has to meet: a failed transfer that drops a row, one that claims a paid row behind one that waits, a repo
-/// claim, a row with claims of both types, and a repo refused by its balance and by the limit.
+/// claim, a row with claims of both types, a repo refused by its balance and by the limit, limits refused, and limits that give more claims
+/// and fewer than the published numbers.
 fn judge(tally: &Tally, count: u64) -> Result<(), String> {
     const MANY: u64 = 10_000;
     const SOME: RangeInclusive<u16> = 1..=u16::MAX;
@@ -179,6 +200,9 @@ fn judge(tally: &Tally, count: u64) -> Result<(), String> {
         (ROWS_OF_BOTH, SOME),
         (REPO_TRANSFER, 7..=7),
         (REPO_TRANSFER, 8..=8),
+        (WITH_LIMITS, 12..=12),
+        (MORE_BY_LIMITS, SOME),
+        (FEWER_BY_LIMITS, SOME),
     ];
     let is_met =
         |(name, numbers): &(&str, RangeInclusive<u16>)| tally.keys().any(|(kind, n)| kind == name && numbers.contains(n));

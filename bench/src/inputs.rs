@@ -1,6 +1,6 @@
 //! Inputs: calendars, tables, balances and messages, sound and damaged.
 use crate::random::Random;
-use bench::rules::{Book, CALENDAR_WORDS, TABLE_WORDS, TRACKING_WORDS};
+use bench::rules::{Book, CALENDAR_WORDS, LIMIT_WORDS, PUBLISHED, TABLE_WORDS, TRACKING_WORDS};
 
 pub const MOST_LENT: u64 = 9_000_000_000;
 
@@ -308,6 +308,26 @@ pub fn world(random: &mut Random) -> World {
         }
     }
     world
+}
+
+/// Date limits: good ones, the published numbers, another length, a number at the edge of its range, or one above the one before.
+pub fn limits(random: &mut Random) -> Vec<u32> {
+    let mut limits: Vec<u32> = (0..LIMIT_WORDS).map(|_| random.from(1, 16) as u32).collect();
+    limits[1..].sort_by(|one, next| next.cmp(one));
+    match random.below(12) {
+        0 => limits = PUBLISHED.to_vec(),
+        1 => cut(random, &mut limits),
+        2 => {
+            let at = random.place(&limits);
+            limits[at] = random.pick(&[0, 1, 16, 17, u32::MAX]);
+        }
+        3 => {
+            let at = random.from(2, LIMIT_WORDS as u64 - 1) as usize;
+            limits[at] = limits[at - 1] + 1;
+        }
+        _ => {}
+    }
+    limits
 }
 
 const OPENER: &[u8] = b"{98A:CNTR/";

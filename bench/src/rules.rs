@@ -1,13 +1,15 @@
-//! The rules of document 01, with cards 1 to 4 of document 02, in Rust: opening, transfer, close and a run of records.
+//! The rules of document 01, with cards 1 to 5 of document 02, in Rust: opening, transfer, close and a run of records.
 mod book;
 mod claims;
 mod days;
+mod limits;
 mod records;
 mod serve;
 mod tables;
 mod tags;
 
-pub use book::{close, open, transfer};
+pub use book::{close, open, transfer, transfer_with_limits};
+pub use limits::PUBLISHED;
 pub use records::answer;
 pub use serve::serve;
 
@@ -16,6 +18,9 @@ pub const CALENDAR_WORDS: usize = 480;
 
 /// Words of the tables, 114 for each of 16 securities.
 pub const TABLE_WORDS: usize = 1824;
+
+/// Words of the date limits.
+pub const LIMIT_WORDS: usize = 5;
 
 /// Words of the par on loan, 256 for each of 16 securities, and of the balances: on loan, then on repo.
 pub const TRACKING_WORDS: usize = 4096;

@@ -30,6 +30,22 @@ mod exports {
             claim_bytes: usize,
         ) -> Done;
 
+        pub fn claim_tracker_transfer_with_limits(
+            calendar: *const u32,
+            calendar_words: usize,
+            tables: *const u32,
+            table_words: usize,
+            limits: *const u32,
+            limit_words: usize,
+            book: Book,
+            balances: *mut u64,
+            balance_words: usize,
+            message: *const u8,
+            message_bytes: usize,
+            claims: *mut u8,
+            claim_bytes: usize,
+        ) -> Done;
+
         pub fn claim_tracker_close(
             calendar: *const u32,
             calendar_words: usize,
@@ -109,6 +125,34 @@ fn call(
 
 pub fn transfer(calendar: &[u32], tables: &[u32], book: Book, balances: &mut [u64], message: &[u8], claims: &mut [u8]) -> Done {
     call(exports::claim_tracker_transfer, calendar, tables, book, balances, message, claims)
+}
+
+pub fn transfer_with_limits(
+    calendar: &[u32],
+    tables: &[u32],
+    limits: &[u32],
+    book: Book,
+    balances: &mut [u64],
+    message: &[u8],
+    claims: &mut [u8],
+) -> Done {
+    unsafe {
+        exports::claim_tracker_transfer_with_limits(
+            calendar.as_ptr(),
+            calendar.len(),
+            tables.as_ptr(),
+            tables.len(),
+            limits.as_ptr(),
+            limits.len(),
+            book,
+            balances.as_mut_ptr(),
+            balances.len(),
+            message.as_ptr(),
+            message.len(),
+            claims.as_mut_ptr(),
+            claims.len(),
+        )
+    }
 }
 
 pub fn close(calendar: &[u32], tables: &[u32], book: Book, balances: &mut [u64], message: &[u8], claims: &mut [u8]) -> Done {

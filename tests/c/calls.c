@@ -96,8 +96,9 @@ static void call(const char *name) {
     new_buffer();
     uint8_t *message = bytes(&count);
     if (limits != NULL) {
-        struct claim_tracker_done done = claim_tracker_transfer_with_limits(
-            calendar, calendar_words, tables, table_words, limits, limit_words, book, balances, balance_words, message, count, buffer, room);
+        struct claim_tracker_done done =
+            claim_tracker_transfer_with_limits(calendar, calendar_words, tables, table_words, limits, limit_words, book, balances,
+                                               balance_words, message, count, buffer, room);
         answer = done.number;
         claims = done.claims;
         book = done.book;

@@ -13,6 +13,10 @@ def bytes_of(word):
     return b"" if word == "-" else bytes.fromhex(word)
 
 
+def limits_of(word):
+    return array("I", [] if word == "-" else map(int, word.split(",")))
+
+
 class Caller:
     """Words, balances and a book that calls are made on."""
 
@@ -59,10 +63,11 @@ class Caller:
             return self.call(name, *words)
         return None
 
-    def call(self, name, room, message):
+    def call(self, name, *words):
+        *limits, room, message = words
         calendar, tables, balances = self.lent()
         buffer, given = bytearray(b"\xaa" * int(room)), self.book
-        done = getattr(claim_tracker, name)(calendar, tables, given, balances, bytes_of(message), buffer)
+        done = getattr(claim_tracker, name)(calendar, tables, *map(limits_of, limits), given, balances, bytes_of(message), buffer)
         self.book = given if name.endswith("_in") else done.book
         return "%s %d claims %d %s" % (name, done.number, done.claims, self.left(buffer, claim_tracker.claim_room(done.claims)))
 

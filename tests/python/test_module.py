@@ -1,6 +1,7 @@
 """The Python module over an installed library: against a C caller on the same calls, against the reference's streams, and its refusals."""
 import builtins
 import datetime
+import itertools
 import os
 import random
 import shutil
@@ -34,6 +35,9 @@ from claim_tracker import Book, Claim, ClaimType, Number, Transfer  # noqa: E402
 
 CALENDAR, TABLES, DAY = claim_tracker.read_book_file(common.BOOK)
 TAG = "{98A:CNTR/%d}"
+LIMITS = ("7,6,3,2,1", "16,16,16,16,16", "1,1,1,1,1", "1,16,16,16,16", "2,9,4,4,1")
+BROKEN = ("-", "7,6,3,2", "7,6,3,2,1,1", "0,6,3,2,1", "7,6,3,2,0", "17,6,3,2,1", "7,17,3,2,1", "7,6,7,2,1", "7,6,3,4,1", "7,6,3,2,3",
+          "4294967295,6,3,2,1")
 
 
 # ---- lists of calls
@@ -81,6 +85,7 @@ def random_calls(count, seed):
             fields = (mostly(choice.randrange(1, 4), 0, 5, 16), mostly(choice.randrange(4, 6), 1, 255), mostly(choice.randrange(3), 3, 16),
                       mostly(0, 1, 2), mostly(choice.choice((0, 0, 0, 0, 1, 7)), *range(2, 7), *range(8, 14)),
                       mostly(200000, 0, 1, 100000000, 100000001))
+            form = choice.choice((form, "_with_limits " + mostly(choice.choice(LIMITS), *BROKEN)))
             lines.append("transfer%s %d %s" % (form, room, transfer_hex(*fields, tag, mostly("", "more text", TAG % day))))
     return lines
 
@@ -92,13 +97,17 @@ def edge_calls():
     for lengths in ("479 1824 8192", "481 1824 8192", "480 0 8192", "480 1824 8191", "480 1824 8193", "480 1824 4096", "480 1824 0",
                     "0 0 0", "480 1824 8192"):
         lines += ["lengths " + lengths, "open 20230404", "transfer 245 " + opened, "serve 0 65542 " + opened]
+        lines += ["transfer_with_limits %s 245 %s" % (limits, opened) for limits in (LIMITS[0], BROKEN[0])]
+    for day in (20230404, 20230509, 20230506):
+        lines += ["book %d 0" % day] + ["transfer_with_limits %s 245 %s" % (limits, opened) for limits in LIMITS + BROKEN]
     lines += ["open 20230402", "open 0", "open 4294967295", "book 20230404 4294967294"]
     lines += ["transfer 245 " + opened, "transfer_in 245 " + opened]
     for place in (18, 4096 + 18):
         for word in (9000000000, 9000000001, 18446744073709551615, 0):
             lines += ["open 20230404", "balances %d %d" % (place, word)]
             lines += ["transfer 0 " + transfer_hex(1, 2, 0, 0, code, 1) for code in (1, 7)] + ["close_in 65535 02000200"]
-    lines += ["calendar 1 4294967295", "open 20230404", "calendar 1 0", "tables 0 9", "open 20230404", "tables 0 3", "open 20391229"]
+    lines += ["calendar 1 4294967295", "open 20230404", "calendar 1 0", "tables 0 9", "open 20230404"]
+    lines += ["transfer_with_limits %s 245 %s" % (BROKEN[0], opened), "tables 0 3", "open 20391229"]
     lines += ["close 0 02000200", "close 0 02000200", "calendar 479 0", "close_in 0 02000200"]
     answer, claim = common.EXPECTED[35:].hex(), common.EXPECTED[:35].hex()
     for record in (opened, "02000200", claim, answer, "ff" * 141):
@@ -131,9 +140,9 @@ class AgainstC(building.Library):
 
     def test_random_calls(self):
         """Claims of each type and most numbers occur among them."""
-        found = self.same(random_calls(800, 7))
+        found = self.same(random_calls(800, 6))
         numbers = {int(line.split()[1]) for line in found}
-        self.assertGreaterEqual(numbers, {0, 5, 6, 7, 10, 132, 133, 135, 138, 139})
+        self.assertGreaterEqual(numbers, {0, 5, 6, 7, 10, 12, 132, 133, 135, 138, 139})
         for name, least in (("transfer", 200), ("close", 5)):
             self.assertGreater(sum(int(line.split()[3]) for line in found if line.startswith(name)), least)
         for kind in ClaimType:
@@ -143,7 +152,8 @@ class AgainstC(building.Library):
 
     def test_edges(self):
         found = self.same(edge_calls())
-        self.assertGreaterEqual({int(line.split()[1]) for line in found if not line.startswith("text")}, {0, 1, 2, 3, 4, 5, 8, 9, 10, 11})
+        self.assertGreaterEqual({int(line.split()[1]) for line in found if not line.startswith("text")},
+                                {0, 1, 2, 3, 4, 5, 8, 9, 10, 11, 12})
         self.assertEqual(found.count("text unknown number"), 201 - len(Number))
 
 
@@ -177,6 +187,9 @@ class Calls(unittest.TestCase):
         """Balances of loans alone get 1 from every call, and nothing changes."""
         half, own, room = array("Q", [0]) * (claim_tracker.BALANCE_WORDS // 2), Book(DAY), bytearray(claim_tracker.RECORD_ROOM)
         self.assertEqual(claim_tracker.open(CALENDAR, TABLES, half, DAY), (Number.WRONG_LENGTH, Book(20000101), 0))
+        limits = array("I", [7, 6, 3, 2, 1])
+        self.assertEqual(claim_tracker.transfer_with_limits(CALENDAR, TABLES, limits, Book(DAY), half, common.TRANSFER, room),
+                         (Number.WRONG_LENGTH, Book(DAY), 0))
         for message, call, call_in in ((common.TRANSFER, claim_tracker.transfer, claim_tracker.transfer_in),
                                        (b"\2\0\2\0", claim_tracker.close, claim_tracker.close_in)):
             self.assertEqual(call(CALENDAR, TABLES, Book(DAY), half, message, room), (Number.WRONG_LENGTH, Book(DAY), 0))
@@ -244,6 +257,52 @@ class Dates(unittest.TestCase):
         first, last = datetime.date(2000, 1, 1), datetime.date(2039, 12, 31)
         dates = [first + datetime.timedelta(days) for days in range((last - first).days)]
         self.assertEqual(found, {10000 * date.year + 100 * date.month + date.day for date in dates})
+
+
+class Limits(unittest.TestCase):
+    """Date limits on an MBS and a Treasury of each frequency, each with 16 rows that are all paid by the book's day."""
+    DAY = 20230301
+    PUBLISHED = 7, 6, 3, 2, 1
+
+    def setUp(self):
+        rows = [word for at in range(16) for word in (20230103 + at, 20230103 + at, self.DAY, 1000000000, 0, 0, 0)]
+        self.tables = array("I", [word for head in ((3, 4), (1, 1), (1, 2), (1, 3), (1, 4)) for word in (*head, *rows)])
+        self.tables.extend([0] * (claim_tracker.TABLE_WORDS - len(self.tables)))
+        self.balances, self.claims = claim_tracker.new_balances(), bytearray(560)
+        self.messages = [bytes.fromhex(transfer_hex(1, 2, security, 0, 0, 5, TAG % 20230102)) for security in range(5)]
+
+    def call(self, limits, security):
+        return claim_tracker.transfer_with_limits(CALENDAR, self.tables, array("I", limits), Book(self.DAY), self.balances,
+                                                  self.messages[security], self.claims)
+
+    def rows(self, done):
+        return [claim_tracker.read_claim(self.claims[35 * at:]).claim.row for at in range(done.claims)]
+
+    def test_numbers(self):
+        """Every list of five numbers at the ends of their range or past them: refused, or each security claims its own number of rows."""
+        for limits in itertools.product((0, 1, 2, 15, 16, 17), repeat=5):
+            mbs, monthly, quarterly, semiannual, annual = limits
+            if 1 <= mbs <= 16 and 16 >= monthly >= quarterly >= semiannual >= annual >= 1:
+                for security, limit in enumerate(limits):
+                    done = self.call(limits, security)
+                    self.assertEqual((done, self.rows(done)), ((0, Book(self.DAY, 1), limit), list(range(16 - limit, 16))), limits)
+            else:
+                self.assertEqual(self.call(limits, 0), (Number.BAD_LIMITS, Book(self.DAY), 0), limits)
+
+    def test_lengths(self):
+        """Another number of limits is refused, and nothing is written."""
+        for length in (0, 1, 2, 3, 4, 6, 7, 16, 300):
+            self.assertEqual(self.call([1] * length, 0), (Number.BAD_LIMITS, Book(self.DAY), 0), length)
+        self.assertEqual((set(self.claims), set(self.balances)), ({0}, {0}))
+        self.assertEqual(self.call([2 ** 32 - 1] * 5, 0).number, Number.BAD_LIMITS)
+
+    def test_published(self):
+        """The form without limits is that with the published ones."""
+        for security, message in enumerate(self.messages):
+            done, claims = self.call(self.PUBLISHED, security), bytearray(560)
+            self.assertEqual(claim_tracker.transfer(CALENDAR, self.tables, Book(self.DAY), self.balances, message, claims), done)
+            self.assertEqual((done.claims, claims), (self.PUBLISHED[security], self.claims))
+            self.claims[:] = bytes(560)
 
 
 class Largest(unittest.TestCase):
@@ -352,7 +411,7 @@ class Refusals(unittest.TestCase):
         self.book = Book(DAY)
 
     def good(self, **changed):
-        """The arguments of a transfer, some of them changed."""
+        """The arguments of a transfer without limits, some of them changed."""
         return {"calendar": CALENDAR, "tables": TABLES, "book": self.book, "balances": self.balances, "message": common.TRANSFER,
                 "claims": self.buffer} | changed
 
@@ -378,6 +437,14 @@ class Refusals(unittest.TestCase):
             for given in ((DAY, 0), None, DAY):
                 self.refused(TypeError, r"\Abook: of type \w+; allowed: Book", call, **self.good(book=given))
             self.refused(TypeError, r"\Abook.day: of type float", call, **self.good(book=Book(2.0)))
+
+    def test_limits(self):
+        call = claim_tracker.transfer_with_limits
+        for given in (None, [7, 6, 3, 2, 1], b"\7\6\3\2\1", array("Q", [7, 6, 3, 2, 1]), array("i", [7, 6, 3, 2, 1])):
+            self.refused(TypeError, r"\Alimits: .*; allowed: 32-bit words", call, **self.good(limits=given))
+        self.refused(ValueError, r"\Abalances and limits overlap\Z", call,
+                     **self.good(limits=memoryview(self.balances).cast("B")[:20].cast("I")))
+        self.refused(TypeError, r"missing 1 required positional argument: 'limits'", call, **self.good())
 
     def test_overlaps(self):
         call = claim_tracker.transfer

@@ -21,10 +21,6 @@ rules = cards.Rules(step_files.CARDS)
 steps = step_files.Steps(ref, rules)
 ROOM = 4096
 TRACKINGS = (("loan", 1), ("repo", 7))      # each with its first code
-PUBLISHED = (7, 6, 3, 2, 1)
-# Lists of limits that break one rule each.
-BROKEN = ((), (7, 6, 3, 2), (7, 6, 3, 2, 1, 1), (0, 6, 3, 2, 1), (17, 6, 3, 2, 1), (7, 17, 3, 2, 1), (7, 6, 3, 2, 0), (7, 6, 7, 2, 1),
-          (7, 6, 3, 4, 1), (7, 6, 3, 2, 3))
 W, X, Y, Z = 3, 0, 1, 2      # the memo's banks
 CALENDAR = mk.weekdays()
 
@@ -286,8 +282,8 @@ def repos():
 
 
 def limits_on_the_cases():
-    """Limits on the tables of the worked cases: one history with another list for each call, lists that break a rule among them, rooms, loans
-    and repos; then bad lists beside other causes."""
+    """Limits on the tables of the worked cases: one history with another list for each call, lists that break a rule among them, rooms,
+    loans and repos; then bad lists beside other causes."""
     tables = mk.cases_tables()
     run = Run("limits", 20230509, tables)
 
@@ -295,33 +291,33 @@ def limits_on_the_cases():
         run.transfer(name, 1, 2, 0, 400_000, contract=20230315, **more)
 
     fail("none")
-    for limits in (PUBLISHED, (16, 16, 16, 16, 16), (1, 6, 3, 2, 1), (1, 16, 16, 16, 16), (2, 3, 3, 3, 3), (1, 1, 1, 1, 1)) + BROKEN:
+    for limits in (step_files.PUBLISHED, [16] * 5, [1, 6, 3, 2, 1], [1, 16, 16, 16, 16], [2, 3, 3, 3, 3], [1] * 5, *step_files.BROKEN):
         fail("-".join(map(str, limits)) or "empty", limits=limits)
-    fail("one-date-one-byte-short", limits=(1, 6, 3, 2, 1), room=34)
-    fail("one-date-exact-room", limits=(1, 6, 3, 2, 1), room=35)
+    fail("one-date-one-byte-short", limits=[1, 6, 3, 2, 1], room=34)
+    fail("one-date-exact-room", limits=[1, 6, 3, 2, 1], room=35)
     for name, start in TRACKINGS:
-        run.transfer(name, 1, 2, 0, 5_000, start, limits=(1, 1, 1, 1, 1))
-        run.transfer(name + "-with-a-bad-list", 1, 2, 0, 5_000, start, limits=BROKEN[-1])
+        run.transfer(name, 1, 2, 0, 5_000, start, limits=[1] * 5)
+        run.transfer(name + "-with-a-bad-list", 1, 2, 0, 5_000, start, limits=step_files.BROKEN[-1])
     run.close("close")
-    fail("after-the-close", limits=(1, 6, 3, 2, 1))
+    fail("after-the-close", limits=[1, 6, 3, 2, 1])
     fail("none-after-the-close")
     run.save(20230506, {})
-    for name, more in (("none", {}), ("good-list", {"limits": PUBLISHED}), ("bad-list", {"limits": BROKEN[0]})):
-        fail(name + "-on-a-closed-day", **more)
+    for name, limits in (("none", None), ("good-list", step_files.PUBLISHED), ("bad-list", step_files.BROKEN[0])):
+        fail(name + "-on-a-closed-day", limits=limits)
     steps.set_tables(CALENDAR, [5] + tables[1:])
-    fail("bad-list-and-bad-tables", limits=BROKEN[0])
+    fail("bad-list-and-bad-tables", limits=step_files.BROKEN[0])
 
 
 def limits_by_security():
-    """Nine rows of each type and frequency, pools that pay late and a row with an interim claim, in the form without limits, with more dates
-    than the published ones and with fewer."""
+    """Nine rows of each type and frequency, pools that pay late and a row with an interim claim, in the form without limits, with more
+    dates than the published ones and with fewer."""
     paid, late = rows_from(20230101, range(20230115, 20230916, 100)), rows_from(20230101, range(20240101, 20240902, 100))
     interim_behind = paid + [ref.Row(20230918, 20231001, 20231015, 5_000_000, 0, 0, 0)]
     securities = {"type-%d-frequency-%d" % (kind, frequency): (kind, frequency, paid) for kind, frequency in (
         (1, 1), (2, 1), (1, 2), (2, 2), (1, 3), (2, 3), (1, 4), (2, 4), (3, 1), (4, 4))} | {
         "late": (3, 1, late), "one-paid": (4, 2, changed(late, 2, payment=20230901)), "interim-behind": (3, 3, interim_behind)}
     run = Run("limits-by-security", 20230920, mk.tables_of({s: mk.security(*found) for s, found in enumerate(securities.values())}))
-    for name, limits in (("none", None), ("more", (9, 8, 4, 3, 2)), ("fewer", (3, 5, 2, 1, 1))):
+    for name, limits in (("none", None), ("more", [9, 8, 4, 3, 2]), ("fewer", [3, 5, 2, 1, 1])):
         for s, security in enumerate(securities):
             run.transfer("%s-%s" % (security, name), X, Y, s, 100_000, contract=20221230, limits=limits)
 

@@ -25,15 +25,10 @@ NUMBERS = step_files.in_force(step_files.ANSWERS)
 # What calls show of the words of repos: repo_facts.
 REPOS = {("repos", "cleared", "open")} | {("repos", "half a book", call) for call in CALLS[:4]} | {
     ("repos", fact, call) for fact in ("past the limit", "with itself") for call in CALLS[1:4]}
-# Lists of limits that break one rule each: the length, the range, the order. In their order only MBS and annual can be 0 alone, and only
-# MBS and monthly above 16.
-PUBLISHED = [7, 6, 3, 2, 1]
-BROKEN = ([], [7, 6, 3, 2], [7, 6, 3, 2, 1, 1], [0, 6, 3, 2, 1], [7, 6, 3, 2, 0], [17, 6, 3, 2, 1], [7, 17, 3, 2, 1], [7, 6, 7, 2, 1],
-          [7, 6, 3, 4, 1], [7, 6, 3, 2, 3])
-MORE, FEWER = [9, 8, 4, 3, 2], [6, 5, 2, 1, 1]
+MORE, FEWER = [9, 8, 4, 3, 2], [6, 5, 2, 1, 1]                          # limits beside the published ones
 SECURITIES = ("MBS", "monthly", "quarterly", "semiannual", "annual")    # by the place of their limit
 # What calls show of limits: limit_facts. No list gives annual securities fewer dates than the published one.
-LIMITS = {("limits", "broken", *limits) for limits in BROKEN} | {("limits", name) for name in (
+LIMITS = {("limits", "broken", *limits) for limits in step_files.BROKEN} | {("limits", name) for name in (
     "12 before 4", "3 before 12", "12 with a loan code", "loan code", "monthly above MBS", "one", "sixteen", "cut among more",
     "cut among fewer")} | {("limits", fact, name) for fact in ("its own", "more", "fewer") for name in SECURITIES} - {
     ("limits", "fewer", "annual")} | {("limits", "type", n) for n in range(1, 5)}
@@ -87,7 +82,7 @@ def accepted_facts(call, transfer) -> set:
         return claimed(call, transfer, [number] * 5) != found
 
     facts = {("limits", name) for name, holds in {
-        "loan code": transfer.code and limits != PUBLISHED,
+        "loan code": transfer.code and limits != step_files.PUBLISHED,
         "monthly above MBS": limits[1] > limits[0],
         "one": limits[place] == 1 and differs(2),
         "sixteen": limits[place] == 16 and differs(15)}.items() if holds}
@@ -106,13 +101,12 @@ def accepted_facts(call, transfer) -> set:
 
 def limit_facts(call, result, answer) -> set:
     """What a transfer with limits shows of them. answer: its number with other arguments."""
-    unread, transfer = ref.read_record(ref.TRANSFER, call["message"])
-    facts = set()
+    transfer, facts = ref.read_record(ref.TRANSFER, call["message"])[1], set()
     if result.number == 3 and cards.Rules.bad_limits(call["limits"]):
         facts.add(("limits", "3 before 12"))
     if result.number == 12:
-        rest = answer(limits=PUBLISHED)
-        facts |= {("limits", "broken", *call["limits"])} if call["limits"] in BROKEN else set()
+        rest = answer(limits=step_files.PUBLISHED)
+        facts |= {("limits", "broken", *call["limits"])} if call["limits"] in step_files.BROKEN else set()
         facts |= {("limits", "12 before 4")} if rest == 4 else set()
         facts |= {("limits", "12 with a loan code")} if rest == 0 and transfer.code else set()
     if result.number == 0:
@@ -130,7 +124,7 @@ def shown(call, result) -> set:
 
     if call["kind"] in ONE_BOOK:
         facts |= repo_facts(call, result)
-    if call["kind"] in (1, 3):
+    if call["kind"] in (1, WITH_LIMITS):
         facts |= step_files.transfer_facts(ref, cards, call, result, answer)
     if call["kind"] == 2:
         facts |= step_files.close_facts(ref, cards, call, result, answer)
@@ -155,7 +149,7 @@ def candidates():
         if kind not in accepted:
             accepted.add(kind)
             yield dict(call, balances=call["balances"][:step_files.REPO_AT])
-            for limits in BROKEN if kind == WITH_LIMITS else ():
+            for limits in step_files.BROKEN if kind == WITH_LIMITS else ():
                 yield dict(call, limits=limits)
         for limits in (MORE, FEWER, [16] * 5) if kind in (1, WITH_LIMITS) else ():
             again = dict(call, kind=WITH_LIMITS, limits=limits, buffer=step_files.pattern(16 * ref.CLAIM_SIZE))

@@ -14,6 +14,11 @@ OPEN, TRANSFER, CLOSE, TRANSFER_WITH_LIMITS = range(4)
 TABLES, BOOK = 128, 129
 MODULUS = 4294967291
 REPO_AT = 4096                  # the first word of repos
+# Date limits: the published ones, and lists that break one rule each: the length, the range, the order. In their order only MBS and annual
+# can be 0 alone, and only MBS and monthly above 16.
+PUBLISHED = [7, 6, 3, 2, 1]
+BROKEN = ([], [7, 6, 3, 2], [7, 6, 3, 2, 1, 1], [0, 6, 3, 2, 1], [7, 6, 3, 2, 0], [17, 6, 3, 2, 1], [7, 17, 3, 2, 1], [7, 6, 7, 2, 1],
+          [7, 6, 3, 4, 1], [7, 6, 3, 2, 3])
 
 # The answers, and what else the stored data show, each with the card that brings it; 0 is document 01.
 ANSWERS = {n: 0 for n in (*range(12), 132, 133, 135, 138, 139)} | {

@@ -30,6 +30,7 @@ MEANINGS = {
     9: "a close with no open day after the next",
     10: "the claims do not fit the claim buffer",
     11: "the transfer count is already 4,294,967,295",
+    12: "the date limits have a wrong length or break a rule",
     132: "more than one Contract Date tag opens",
     133: "a Contract Date tag without } in its line",
     135: "the Contract Date tag holds no date",

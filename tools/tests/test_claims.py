@@ -186,7 +186,7 @@ class Claims(common.Desk):
         for data, words in ((OUTPUT[:-1], "byte 35: the record that begins here is cut short"),
                             (OUTPUT[:3], "byte 0: the record that begins here is cut short"),
                             (OUTPUT + b"\2\0\2\0", "byte 41: no claim or answer begins here (bytes 02 00 02 00)"),
-                            (answer(12), "byte 0: the answer 12 has no meaning"),
+                            (answer(131), "byte 0: the answer 131 has no meaning"),
                             (answer(0) + claim(kind=5), "byte 6: a claim with type 5; allowed: 1, 2, 3, 4"),
                             (claim(outcome=4), "a claim with outcome 4"), (claim(payer=16), "a claim with payer 16"),
                             (claim(payee=16), "a claim with payee 16"), (claim(security=16), "a claim with security 16"),

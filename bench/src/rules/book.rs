@@ -1,6 +1,7 @@
 //! The book and its calls.
 use super::claims;
 use super::days::{self, Calendar};
+use super::limits::{self, Limits, PUBLISHED};
 use super::records::{self, Transfer};
 use super::tables::{self, Tables};
 use super::tags;
@@ -46,22 +47,30 @@ fn judge_balances(balances: &Balances) -> Result<(), u16> {
     Ok(())
 }
 
-/// A book with its balances on a calendar and tables, all of which keep their rules.
+/// A book with its balances on a calendar, tables and date limits, all of which keep their rules.
 pub struct Sound<'a> {
     calendar: &'a Calendar,
     tables: &'a Tables,
+    limits: &'a Limits,
     balances: &'a mut Balances,
     pub book: Book,
 }
 
 impl<'a> Sound<'a> {
-    /// Judges numbers 1 to 4.
-    pub fn judge(calendar: &'a [u32], tables: &'a [u32], book: Book, balances: &'a mut [u64]) -> Result<Self, u16> {
+    /// Judges numbers 1, 2, 3, 12 and 4.
+    pub fn judge(
+        calendar: &'a [u32],
+        tables: &'a [u32],
+        limits: &'a [u32],
+        book: Book,
+        balances: &'a mut [u64],
+    ) -> Result<Self, u16> {
         let (calendar, tables) = judge_tables(calendar, tables, balances.len())?;
         let balances: &mut Balances = balances.try_into().or(Err(1u16))?;
+        let limits = limits::judged(limits).ok_or(12u16)?;
         judge_day(calendar, book.day)?;
         judge_balances(balances)?;
-        Ok(Sound { calendar, tables, balances, book })
+        Ok(Sound { calendar, tables, limits, balances, book })
     }
 
     fn judge_fields(&self, transfer: &Transfer) -> Result<(), u16> {
@@ -105,16 +114,17 @@ impl<'a> Sound<'a> {
         let transfer = records::read_transfer(message).ok_or(5u16)?;
         self.judge_fields(&transfer)?;
         let contract = tags::contract_date(transfer.lines, self.book.day, transfer.class)?;
-        let number = self.book.count.checked_add(1).ok_or(11u16)?;
+        let count = self.book.count.checked_add(1).ok_or(11u16)?;
+        let counted = Book { count, ..self.book };
         let tracked = self.tracked(&transfer)?;
         let written = match transfer.code {
-            0 => claims::write_transfer(self.calendar, self.tables, self.book.day, number, &transfer, contract, claims)?,
+            0 => claims::write_transfer(self.calendar, self.tables, self.limits, counted, &transfer, contract, claims)?,
             _ => 0,
         };
         if let Some((at, after)) = tracked {
             self.balances[at] = after;
         }
-        self.book.count = number;
+        self.book = counted;
         Ok(written)
     }
 
@@ -148,9 +158,22 @@ pub fn open(calendar: &[u32], tables: &[u32], balances: &mut [u64], day: u32) ->
     }
 }
 
-/// Works a transfer.
+/// Works a transfer with the published numbers of Beneficiary Dates.
 pub fn transfer(calendar: &[u32], tables: &[u32], book: Book, balances: &mut [u64], message: &[u8], claims: &mut [u8]) -> Done {
-    let worked = Sound::judge(calendar, tables, book, balances)
+    transfer_with_limits(calendar, tables, &PUBLISHED, book, balances, message, claims)
+}
+
+/// Works a transfer with other numbers of Beneficiary Dates.
+pub fn transfer_with_limits(
+    calendar: &[u32],
+    tables: &[u32],
+    limits: &[u32],
+    book: Book,
+    balances: &mut [u64],
+    message: &[u8],
+    claims: &mut [u8],
+) -> Done {
+    let worked = Sound::judge(calendar, tables, limits, book, balances)
         .and_then(|mut sound| sound.transfer(message, claims).map(|claims| (sound.book, claims)));
     match worked {
         Ok((book, claims)) => Done { number: 0, book, claims },
@@ -160,7 +183,7 @@ pub fn transfer(calendar: &[u32], tables: &[u32], book: Book, balances: &mut [u6
 
 /// Works a close.
 pub fn close(calendar: &[u32], tables: &[u32], book: Book, balances: &mut [u64], message: &[u8], claims: &mut [u8]) -> Done {
-    let worked = Sound::judge(calendar, tables, book, balances)
+    let worked = Sound::judge(calendar, tables, &PUBLISHED, book, balances)
         .and_then(|mut sound| sound.close(message, claims).map(|claims| (sound.book, claims)));
     match worked {
         Ok((book, claims)) => Done { number: 0, book, claims },

@@ -1,9 +1,10 @@
 //! Amounts, outcomes and release of claims; the claims of a transfer and of a close.
-use super::TRACKING_WORDS;
 use super::book::Balances;
 use super::days::{self, Calendar};
+use super::limits::{self, Limits};
 use super::records::{CLAIM_BYTES, Claim, Transfer};
 use super::tables::{self, Row, Security, Tables};
+use super::{Book, TRACKING_WORDS};
 use std::ops::Range;
 
 const FAIL: u8 = 1;
@@ -66,17 +67,6 @@ fn claim(calendar: &Calendar, day: u32, due: &Due) -> Claim {
     }
 }
 
-/// The most Beneficiary Dates that a fail goes back.
-fn most_rows(security: &Security) -> usize {
-    match security[1] {
-        _ if tables::is_mbs(security) => 7,
-        1 => 6,
-        2 => 3,
-        3 => 2,
-        _ => 1,
-    }
-}
-
 /// A bit for each row of a range.
 fn bits(rows: Range<usize>) -> u32 {
     (1 << rows.end) - (1 << rows.start)
@@ -106,12 +96,12 @@ struct Claimed {
 /// Record and Beneficiary Dates rise, so the rows with such a date up to the day stand first. Of those with the Beneficiary Date, a fail
 /// claims the most recent ones, and in an MBS only the first of these that waits for its Payment Date; interim are those with the Record
 /// Date alone.
-fn claimed(security: &Security, day: u32, contract: Option<u32>) -> Claimed {
+fn claimed(security: &Security, limits: &Limits, day: u32, contract: Option<u32>) -> Claimed {
     let rows = tables::rows(security);
     let up_to_day = |date: usize| rows.iter().take_while(|row| row[date] != 0 && row[date] <= day).count();
     let reached = up_to_day(1);
     let fails = contract.map_or(0, |contract| {
-        let recent = rows[..reached].iter().rev().take(most_rows(security));
+        let recent = rows[..reached].iter().rev().take(limits::of(limits, security));
         recent.take_while(|row| contract < row[1]).count()
     });
     let fails = reached - fails..reached;
@@ -122,18 +112,18 @@ fn claimed(security: &Security, day: u32, contract: Option<u32>) -> Claimed {
     Claimed { rows: bits(fails.clone()) & !later_waiting(rows, fails, day) | bits(interim), interim: reached }
 }
 
-/// The fail and interim claims of a transfer of code 0, written from the buffer's start, or 10.
+/// The fail and interim claims of a transfer of code 0, written from the buffer's start, or 10. The book has counted the transfer.
 pub fn write_transfer(
     calendar: &Calendar,
     tables: &Tables,
-    day: u32,
-    number: u32,
+    limits: &Limits,
+    book: Book,
     transfer: &Transfer,
     contract: Option<u32>,
     buffer: &mut [u8],
 ) -> Result<usize, u16> {
     let security = &tables::securities(tables)[transfer.security as usize];
-    let claimed = claimed(security, day, contract);
+    let claimed = claimed(security, limits, book.day, contract);
     let count = claimed.rows.count_ones() as usize;
     let room = buffer.get_mut(..CLAIM_BYTES * count).ok_or(10u16)?;
     let (records, _) = room.as_chunks_mut::<CLAIM_BYTES>();
@@ -147,10 +137,10 @@ pub fn write_transfer(
             kind: security[0],
             row: row as u8,
             words: &rows[row],
-            transfer: number,
+            transfer: book.count,
             par: transfer.par as u64,
         };
-        *record = claim(calendar, day, &due).bytes();
+        *record = claim(calendar, book.day, &due).bytes();
     }
     Ok(count)
 }
