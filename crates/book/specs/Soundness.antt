@@ -45,7 +45,7 @@ tableCauses calendar tables balances =
 unfoldable pub stateCauses : List ℕ → ℕ → List ℕ → List Cause
 stateCauses calendar day balances = cause 4 (badDay calendar day || badBalances balances) ∷ []
 
--- Numbers 1 to 4 of a close; calendar, tables, book and balances are sound where none applies.
+-- Numbers 1 to 4 of a close and of a run of a stream; calendar, tables, book and balances are sound where none applies.
 unfoldable pub bookCauses : List ℕ → List ℕ → ℕ → List ℕ → List Cause
 bookCauses calendar tables day balances = tableCauses calendar tables balances ++ stateCauses calendar day balances
 

@@ -140,7 +140,7 @@ fn state_number(calendar: &[u32], day: u32, balances: &[u64]) -> u16
     0
 }
 
-// The first of the numbers 1 to 4 that a close meets, 0 where it meets none.
+// The first of the numbers 1 to 4 that a close or a run of a stream meets, 0 where it meets none.
 pub fn book_number(calendar: &[u32], tables: &[u32], day: u32, balances: &[u64]) -> u16
     ensures { λ r. ⌜ r ≡ firstOf (bookCauses (now (calendar .entry)) (now (tables .entry)) day (now (balances .entry))) ⌝ }
 {
