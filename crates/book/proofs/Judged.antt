@@ -9,7 +9,7 @@ use lib.Dec.{eqb, leb}
 use lib.ListN.{length, getD}
 use borrow.Author.Tests.{eqb-true, eqb-false, eq-eqb, leb-true, not-false}
 use Rattle.lists.specs.Tests.{and-left, and-right, or-false-left, or-false-right}
-use Rattle.lists.specs.First.{NoneApplies, firstOf, numbered, appliesAt, cleared, cleared-by, none-applies, first-none}
+use Rattle.lists.specs.First.{NoneApplies, firstOf, numbered, appliesAt, cleared, cleared-by, none-applies}
 use Rattle.days.specs.Days.{badCalendar, isOpen, openAfter}
 use Rattle.days.proofs.OpenDays.{Kept}
 use Rattle.securities.specs.Lent.{goodLimits}
@@ -160,20 +160,23 @@ module _ (calendar tables limits : List ℕ) (day : ℕ) (balances : List ℕ) w
 
   -- where none of them applies, none of 1 to 4 does
   pub lent-none : NoneApplies (lentBookCauses calendar tables limits day balances) → NoneApplies (bookCauses calendar tables day balances)
-  unfolding lentBookCauses bookCauses tableCauses lentCauses stateCauses
-  lent-none n = (n .0, (n .1 .0, (n .1 .1 .0, n .1 .1 .1 .1)))
+  unfolding lentBookCauses bookCauses tableCauses lentCauses stateCauses appliesAt
+  lent-none n =
+      let cs = lentBookCauses calendar tables limits day balances in
+      (cleared-by 1 cs n, (cleared-by 2 cs n, (cleared-by 3 cs n, (cleared-by 4 cs n, tt))))
 
   pub lent-sound : firstOf (lentBookCauses calendar tables limits day balances) ≡ 0 → SoundBook calendar tables day balances
   lent-sound z = sound-book calendar tables day balances (lent-none (none-applies _ numbered-lent z))
 
   pub lent-limits : firstOf (lentBookCauses calendar tables limits day balances) ≡ 0 → length limits ≡ 5
-  unfolding lentBookCauses tableCauses lentCauses appliesAt
+  unfolding lentBookCauses tableCauses lentCauses stateCauses appliesAt
   lent-limits z = five-limits limits (not-false _ (cleared 12 (lentBookCauses calendar tables limits day balances) numbered-lent z))
 
   -- on a sound book good limits are sound
   pub sound-lent : firstOf (bookCauses calendar tables day balances) ≡ 0 → goodLimits limits ≡ true
       → firstOf (lentBookCauses calendar tables limits day balances) ≡ 0
-  unfolding lentBookCauses bookCauses tableCauses lentCauses stateCauses
+  unfolding lentBookCauses bookCauses tableCauses lentCauses stateCauses appliesAt firstOf
   sound-lent z g =
-      let n = none-applies (bookCauses calendar tables day balances) (numbered-book calendar tables day balances) z in
-      first-none (lentBookCauses calendar tables limits day balances) (n .0, (n .1 .0, (n .1 .1 .0, (ap not g, n .1 .1 .1))))
+      let cs = bookCauses calendar tables day balances in
+      let n = none-applies cs (numbered-book calendar tables day balances) z in
+      rw (cleared-by 1 cs n, cleared-by 2 cs n, cleared-by 3 cs n, g, cleared-by 4 cs n)

@@ -32,8 +32,8 @@ unfoldable pub lentBy : ℕ → List Entry → Parties → ℕ
 lentBy tracking es x = parLent es (record { tracking = tracking; security = x .security; lender = x .payee; borrower = x .payer })
 
 -- What a call that was accepted on a day, after the entries before it, adds in claims whose type and row number pass a test: a failed
--- transfer its eligible dates by the limits lent (card 5) on its own par, a transfer with code 0 its interim dates (document 02, card 1) on its own par, a close the
--- rows that it crosses on the par on loan before it, and again on the par on repo (card 3).
+-- transfer its eligible dates on its own par, by the limits that it was lent (document 02, card 5); a transfer with code 0 its interim
+-- dates (card 1) on its own par; a close the rows that it crosses on the par on loan before it, and again on the par on repo (card 3).
 unfoldable pub owedBy : List ℕ → List ℕ → Part → (ℕ → ℕ → Bool) → List Entry → ℕ → Call → Parties → ℕ
 owedBy calendar tables part claimTest before day (transfer a) x =
     let t = transferOf (a .message) in

@@ -139,7 +139,8 @@ pub record AgreesWithLedger (calendar tables : List ℕ) (start : ℕ) (calls : 
   pub payments : (part : Part) (x : Parties)
       → paid part ofAll (recordsIn (r .answers)) x ≡ owed calendar tables part ofAll (j .ledger .entries) x
   pub crossed-once : (row : Row) → CrossedOnce calendar start (j .ledger) row
-  -- The rows that the next transfer claims, failed or interim, with whatever limits it is lent, rise in Beneficiary Date, so none is claimed twice.
+  -- The rows that the next transfer claims, failed or interim, with whatever limits it is lent, rise in Beneficiary Date, so none is
+  -- claimed twice.
   pub dates-once : (limits : List ℕ) (t : Transfer) (tag : Tag) → t .security < 16
       → rising (λ row. row .beneficiaryDate) (map (λ d. d .row) (dues tables limits (j .ledger .day) t tag)) ≡ true
   -- They rise in row number too: a transfer's claims come in row order.
