@@ -172,7 +172,8 @@ pub fn claim_on(
     row: &[u32],
 ) -> Claim
     requires { ⌜ Claimable (now calendar) (now tables) security payer (par .0) (now row) ⌝ }
-    ensures { λ r. ⌜ r ≡ claimOn (now (calendar .entry)) (now (tables .entry)) day number (record { security = security; payee = payee; payer = payer }) (par .0) «claim_type» (rowOf index (now (row .entry))) ⌝ }
+    ensures { λ r. ⌜ r ≡ claimOn (now (calendar .entry)) (now (tables .entry)) day number
+        (record { security = security; payee = payee; payer = payer }) (par .0) «claim_type» (rowOf index (now (row .entry))) ⌝ }
 {
     let interest = cents_on(par, row[3]);
     let principal = cents_on(par, row[4]);

@@ -19,7 +19,8 @@ fn take_words(bytes: &[u8], at: usize, words: &mut [u32])
 // Fills the calendar and the tables from the bytes of book.dat, and answers the opening's day.
 pub fn load(bytes: &[u8], calendar: &mut [u32], tables: &mut [u32]) -> u32
     requires { ⌜ (9220 ≤ length (now bytes)) × (length (now calendar) ≡ 480) × (length (now tables) ≡ 1824) ⌝ }
-    ensures { λ r. ⌜ (now (calendar .exit) ≡ calendarIn (now (bytes .entry))) × (now (tables .exit) ≡ tablesIn (now (bytes .entry))) × (r ≡ dayIn (now (bytes .entry))) ⌝ }
+    ensures { λ r. ⌜ (now (calendar .exit) ≡ calendarIn (now (bytes .entry))) × (now (tables .exit) ≡ tablesIn (now (bytes .entry)))
+        × (r ≡ dayIn (now (bytes .entry))) ⌝ }
 {
     take_words(bytes, 0, calendar);
     take_words(bytes, 1920, tables);

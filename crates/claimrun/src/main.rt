@@ -157,7 +157,8 @@ fn run(
     output: &mut [u8],
 ) -> Held
     requires { ⌜ (begun .left ≤ length (now input)) × (begun .written ≤ length (now output)) ⌝ }
-    ensures { λ r. ⌜ Ran (now (calendar .entry)) (now (tables .entry)) (holding begun (now (balances .entry)) (now (input .entry)) (now (output .entry))) r (now (balances .exit)) (now (input .exit)) ⌝ }
+    ensures { λ r. ⌜ Ran (now (calendar .entry)) (now (tables .entry))
+        (holding begun (now (balances .entry)) (now (input .entry)) (now (output .entry))) r (now (balances .exit)) (now (input .exit)) ⌝ }
 {
     let mut held = begun;
     let mut turns = u64::MAX;
@@ -190,7 +191,8 @@ fn serve_book(
     output: &mut [u8],
 ) -> Held
     requires { ⌜ (length (now calendar) ≡ 480) × (length (now tables) ≡ 1824) × (6 ≤ length (now output)) ⌝ }
-    ensures { λ r. ⌜ RanBook (begins (now (file .entry)) (now (calendar .entry)) (now (tables .entry)) (now (balances .entry)) (now (output .entry))) (now (input .entry)) r (now (balances .exit)) (now (input .exit)) ⌝ }
+    ensures { λ r. ⌜ RanBook (begins (now (file .entry)) (now (calendar .entry)) (now (tables .entry)) (now (balances .entry)) (now (output .entry)))
+        (now (input .entry)) r (now (balances .exit)) (now (input .exit)) ⌝ }
 {
     let held = steps::begin(file, calendar, tables, balances, output);
     run(calendar, tables, held, balances, input, output)

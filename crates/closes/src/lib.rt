@@ -38,8 +38,11 @@ fn store(
     next: u32,
     balances: &[u64],
 ) -> usize
-    requires { ⌜ SoundClose (now calendar) (now tables) day next × (length (now balances) ≡ 8192) × (all small (now balances) ≡ true) × Free true (now claims) 0 (closeClaims (now calendar) (now tables) day (now balances)) × (n ≡ length (closeClaims (now calendar) (now tables) day (now balances))) ⌝ }
-    ensures { λ r. ⌜ Passed true (now (claims .entry)) (now (claims .exit)) 0 r (closeClaims (now (calendar .entry)) (now (tables .entry)) day (now (balances .entry))) ⌝ }
+    requires { ⌜ SoundClose (now calendar) (now tables) day next × (length (now balances) ≡ 8192) × (all small (now balances) ≡ true)
+        × Free true (now claims) 0 (closeClaims (now calendar) (now tables) day (now balances))
+        × (n ≡ length (closeClaims (now calendar) (now tables) day (now balances))) ⌝ }
+    ensures { λ r. ⌜ Passed true (now (claims .entry)) (now (claims .exit)) 0 r
+        (closeClaims (now (calendar .entry)) (now (tables .entry)) day (now (balances .entry))) ⌝ }
 {
     if n == 0 {
         return 0;
@@ -57,7 +60,9 @@ pub fn close_sound(
     claims: &mut [u8],
 ) -> Done
     requires { ⌜ firstOf (bookCauses (now calendar) (now tables) (book .day) (now balances)) ≡ 0 ⌝ }
-    ensures { λ r. ⌜ left r (now (claims .exit)) (now (balances .exit)) ≡ result (now (calendar .entry)) (now (tables .entry)) book (now (balances .entry)) (Call.close (record { message = now (message .entry); buffer = now (claims .entry) })) ⌝ }
+    ensures { λ r. ⌜ left r (now (claims .exit)) (now (balances .exit))
+        ≡ result (now (calendar .entry)) (now (tables .entry)) book (now (balances .entry))
+        (Call.close (record { message = now (message .entry); buffer = now (claims .entry) })) ⌝ }
 {
     if let ReadClose::Refused = reading::read_close(message) {
         return book::refused(5, book);
@@ -89,7 +94,9 @@ pub fn close(
     message: &[u8],
     claims: &mut [u8],
 ) -> Done
-    ensures { λ r. ⌜ left r (now (claims .exit)) (now (balances .exit)) ≡ result (now (calendar .entry)) (now (tables .entry)) book (now (balances .entry)) (Call.close (record { message = now (message .entry); buffer = now (claims .entry) })) ⌝ }
+    ensures { λ r. ⌜ left r (now (claims .exit)) (now (balances .exit))
+        ≡ result (now (calendar .entry)) (now (tables .entry)) book (now (balances .entry))
+        (Call.close (record { message = now (message .entry); buffer = now (claims .entry) })) ⌝ }
 {
     let number = judging::book_number(calendar, tables, book.day, balances);
     if number != 0 {

@@ -216,8 +216,10 @@ fn pass_row(
     rows: Recent,
     index: u8,
 ) -> usize
-    requires { ⌜ Claiming (now calendar) (now tables) t × (index < 16) × Free write (now buffer) n (dueClaim (now calendar) (now tables) day number t rows (rowAt (now tables) (t .security) index)) ⌝ }
-    ensures { λ r. ⌜ Passed write (now (buffer .entry)) (now (buffer .exit)) n r (dueClaim (now (calendar .entry)) (now (tables .entry)) day number t rows (rowAt (now (tables .entry)) (t .security) index)) ⌝ }
+    requires { ⌜ Claiming (now calendar) (now tables) t × (index < 16)
+        × Free write (now buffer) n (dueClaim (now calendar) (now tables) day number t rows (rowAt (now tables) (t .security) index)) ⌝ }
+    ensures { λ r. ⌜ Passed write (now (buffer .entry)) (now (buffer .exit)) n r
+        (dueClaim (now (calendar .entry)) (now (tables .entry)) day number t rows (rowAt (now (tables .entry)) (t .security) index)) ⌝ }
 {
     let at = 114 * (t.security as usize) + 2 + 7 * (index as usize);
     let row = &tables[at..at + 7];
@@ -256,8 +258,10 @@ pub fn transfer_claims(
     t: Transfer,
     rows: Recent,
 ) -> usize
-    requires { ⌜ Claiming (now calendar) (now tables) t × (rows .first ≤ rows .end) × (rows .end ≤ 16) × Free write (now buffer) 0 (recentClaims (now calendar) (now tables) day number t rows) ⌝ }
-    ensures { λ r. ⌜ Passed write (now (buffer .entry)) (now (buffer .exit)) 0 r (recentClaims (now (calendar .entry)) (now (tables .entry)) day number t rows) ⌝ }
+    requires { ⌜ Claiming (now calendar) (now tables) t × (rows .first ≤ rows .end) × (rows .end ≤ 16)
+        × Free write (now buffer) 0 (recentClaims (now calendar) (now tables) day number t rows) ⌝ }
+    ensures { λ r. ⌜ Passed write (now (buffer .entry)) (now (buffer .exit)) 0 r
+        (recentClaims (now (calendar .entry)) (now (tables .entry)) day number t rows) ⌝ }
 {
     let first = rows.first;
     let count = rows.end - first;

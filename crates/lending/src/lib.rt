@@ -31,8 +31,12 @@ fn pass_loan(
     index: u8,
     row: &[u32],
 ) -> usize
-    requires { ⌜ Ready (now calendar) (now tables) (now row) security × (borrower < 16) × (par ≤ 9000000000) × Free write (now buffer) n (loanClaim (now calendar) (now tables) day «claim_type» (rowOf index (now row)) (loanParties security lender borrower) par) ⌝ }
-    ensures { λ r. ⌜ Passed write (now (buffer .entry)) (now (buffer .exit)) n r (loanClaim (now (calendar .entry)) (now (tables .entry)) day «claim_type» (rowOf index (now (row .entry))) (loanParties security lender borrower) par) ⌝ }
+    requires { ⌜ Ready (now calendar) (now tables) (now row) security × (borrower < 16) × (par ≤ 9000000000)
+        × Free write (now buffer) n
+        (loanClaim (now calendar) (now tables) day «claim_type» (rowOf index (now row)) (loanParties security lender borrower) par) ⌝ }
+    ensures { λ r. ⌜ Passed write (now (buffer .entry)) (now (buffer .exit)) n r
+        (loanClaim (now (calendar .entry)) (now (tables .entry)) day «claim_type» (rowOf index (now (row .entry)))
+        (loanParties security lender borrower) par) ⌝ }
 {
     if par == 0 {
         return n;
@@ -75,8 +79,11 @@ fn pass_lender(
     index: u8,
     row: &[u32],
 ) -> usize
-    requires { ⌜ Ready (now calendar) (now tables) (now row) security × (length (now lent) ≡ 16) × (all small (now lent) ≡ true) × Free write (now buffer) n (lenderClaims (now calendar) (now tables) day «claim_type» (rowOf index (now row)) security lender (now lent)) ⌝ }
-    ensures { λ r. ⌜ Passed write (now (buffer .entry)) (now (buffer .exit)) n r (lenderClaims (now (calendar .entry)) (now (tables .entry)) day «claim_type» (rowOf index (now (row .entry))) security lender (now (lent .entry))) ⌝ }
+    requires { ⌜ Ready (now calendar) (now tables) (now row) security × (length (now lent) ≡ 16) × (all small (now lent) ≡ true)
+        × Free write (now buffer) n (lenderClaims (now calendar) (now tables) day «claim_type» (rowOf index (now row)) security lender (now lent)) ⌝ }
+    ensures { λ r. ⌜ Passed write (now (buffer .entry)) (now (buffer .exit)) n r
+        (lenderClaims (now (calendar .entry)) (now (tables .entry)) day «claim_type» (rowOf index (now (row .entry)))
+        security lender (now (lent .entry))) ⌝ }
 {
     let mut m = n;
     let mut b: u8 = 0;
@@ -115,8 +122,11 @@ fn pass_tracking(
     index: u8,
     row: &[u32],
 ) -> usize
-    requires { ⌜ Ready (now calendar) (now tables) (now row) security × (length (now held) ≡ 256) × (all small (now held) ≡ true) × Free write (now buffer) n (trackingClaims (now calendar) (now tables) day «claim_type» security (now held) (rowOf index (now row))) ⌝ }
-    ensures { λ r. ⌜ Passed write (now (buffer .entry)) (now (buffer .exit)) n r (trackingClaims (now (calendar .entry)) (now (tables .entry)) day «claim_type» security (now (held .entry)) (rowOf index (now (row .entry)))) ⌝ }
+    requires { ⌜ Ready (now calendar) (now tables) (now row) security × (length (now held) ≡ 256) × (all small (now held) ≡ true)
+        × Free write (now buffer) n (trackingClaims (now calendar) (now tables) day «claim_type» security (now held) (rowOf index (now row))) ⌝ }
+    ensures { λ r. ⌜ Passed write (now (buffer .entry)) (now (buffer .exit)) n r
+        (trackingClaims (now (calendar .entry)) (now (tables .entry)) day «claim_type»
+        security (now (held .entry)) (rowOf index (now (row .entry)))) ⌝ }
 {
     let mut m = n;
     let mut l: u8 = 0;
@@ -154,8 +164,10 @@ fn pass_row(
     index: u8,
     row: &[u32],
 ) -> usize
-    requires { ⌜ Ready (now calendar) (now tables) (now row) security × (length (now balances) ≡ 8192) × (all small (now balances) ≡ true) × Free write (now buffer) n (rowClaims (now calendar) (now tables) day security (now balances) (rowOf index (now row))) ⌝ }
-    ensures { λ r. ⌜ Passed write (now (buffer .entry)) (now (buffer .exit)) n r (rowClaims (now (calendar .entry)) (now (tables .entry)) day security (now (balances .entry)) (rowOf index (now (row .entry)))) ⌝ }
+    requires { ⌜ Ready (now calendar) (now tables) (now row) security × (length (now balances) ≡ 8192) × (all small (now balances) ≡ true)
+        × Free write (now buffer) n (rowClaims (now calendar) (now tables) day security (now balances) (rowOf index (now row))) ⌝ }
+    ensures { λ r. ⌜ Passed write (now (buffer .entry)) (now (buffer .exit)) n r
+        (rowClaims (now (calendar .entry)) (now (tables .entry)) day security (now (balances .entry)) (rowOf index (now (row .entry)))) ⌝ }
 {
     let mut m = n;
     let mut k: u8 = 0;
@@ -193,8 +205,11 @@ fn pass_turn(
     index: u8,
     row: &[u32],
 ) -> usize
-    requires { ⌜ Sound (now calendar) (now tables) day next security index (now row) × (length (now balances) ≡ 8192) × (all small (now balances) ≡ true) × Free write (now buffer) n (turnClaims (now calendar) (now tables) day next security (now balances) (rowOf index (now row))) ⌝ }
-    ensures { λ r. ⌜ Passed write (now (buffer .entry)) (now (buffer .exit)) n r (turnClaims (now (calendar .entry)) (now (tables .entry)) day next security (now (balances .entry)) (rowOf index (now (row .entry)))) ⌝ }
+    requires { ⌜ Sound (now calendar) (now tables) day next security index (now row)
+        × (length (now balances) ≡ 8192) × (all small (now balances) ≡ true)
+        × Free write (now buffer) n (turnClaims (now calendar) (now tables) day next security (now balances) (rowOf index (now row))) ⌝ }
+    ensures { λ r. ⌜ Passed write (now (buffer .entry)) (now (buffer .exit)) n r
+        (turnClaims (now (calendar .entry)) (now (tables .entry)) day next security (now (balances .entry)) (rowOf index (now (row .entry)))) ⌝ }
 {
     let date = row[0];
     if date <= day {
@@ -229,8 +244,11 @@ fn pass_security(
     security: u8,
     balances: &[u64],
 ) -> usize
-    requires { ⌜ SoundClose (now calendar) (now tables) day next × (security < 16) × (length (now balances) ≡ 8192) × (all small (now balances) ≡ true) × Free write (now buffer) n (securityClaims (now calendar) (now tables) day security (now balances)) ⌝ }
-    ensures { λ r. ⌜ Passed write (now (buffer .entry)) (now (buffer .exit)) n r (securityClaims (now (calendar .entry)) (now (tables .entry)) day security (now (balances .entry))) ⌝ }
+    requires { ⌜ SoundClose (now calendar) (now tables) day next × (security < 16)
+        × (length (now balances) ≡ 8192) × (all small (now balances) ≡ true)
+        × Free write (now buffer) n (securityClaims (now calendar) (now tables) day security (now balances)) ⌝ }
+    ensures { λ r. ⌜ Passed write (now (buffer .entry)) (now (buffer .exit)) n r
+        (securityClaims (now (calendar .entry)) (now (tables .entry)) day security (now (balances .entry))) ⌝ }
 {
     let start = 114 * (security as usize) + 2;
     let mut m = n;
@@ -265,8 +283,10 @@ pub fn pass_close(
     next: u32,
     balances: &[u64],
 ) -> usize
-    requires { ⌜ SoundClose (now calendar) (now tables) day next × (length (now balances) ≡ 8192) × (all small (now balances) ≡ true) × Free write (now buffer) 0 (closeClaims (now calendar) (now tables) day (now balances)) ⌝ }
-    ensures { λ r. ⌜ Passed write (now (buffer .entry)) (now (buffer .exit)) 0 r (closeClaims (now (calendar .entry)) (now (tables .entry)) day (now (balances .entry))) ⌝ }
+    requires { ⌜ SoundClose (now calendar) (now tables) day next × (length (now balances) ≡ 8192) × (all small (now balances) ≡ true)
+        × Free write (now buffer) 0 (closeClaims (now calendar) (now tables) day (now balances)) ⌝ }
+    ensures { λ r. ⌜ Passed write (now (buffer .entry)) (now (buffer .exit)) 0 r
+        (closeClaims (now (calendar .entry)) (now (tables .entry)) day (now (balances .entry))) ⌝ }
 {
     let mut m: usize = 0;
     let mut s: u8 = 0;

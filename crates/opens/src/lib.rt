@@ -7,7 +7,8 @@ use days::Date;
 
 // The opening of a book on a day. Refused, it returns day 20000101 and count 0 and leaves the balances.
 pub fn open(calendar: &[u32], tables: &[u32], balances: &mut [u64], day: u32) -> Done
-    ensures { λ r. ⌜ (leftOpen r (now (balances .exit)) ≡ opened (now (calendar .entry)) (now (tables .entry)) (now (balances .entry)) day) × (r .claims ≡ 0) ⌝ }
+    ensures { λ r. ⌜ (leftOpen r (now (balances .exit)) ≡ opened (now (calendar .entry)) (now (tables .entry)) (now (balances .entry)) day)
+        × (r .claims ≡ 0) ⌝ }
 {
     let number = judging::opening_number(calendar, tables, balances, day);
     if number != 0 {

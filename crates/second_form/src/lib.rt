@@ -13,7 +13,8 @@ pub fn transfer_lent(
     message: &[u8],
     claims: &mut [u8],
 ) -> Done
-    ensures { λ r. ⌜ Gives (now (calendar .entry)) (now (tables .entry)) book (now (balances .entry)) (publishedTransfer (record { message = now (message .entry); buffer = now (claims .entry) })) r (now (claims .exit)) (now (balances .exit)) ⌝ }
+    ensures { λ r. ⌜ Gives (now (calendar .entry)) (now (tables .entry)) book (now (balances .entry))
+        (publishedTransfer (record { message = now (message .entry); buffer = now (claims .entry) })) r (now (claims .exit)) (now (balances .exit)) ⌝ }
 {
     let mut own = book;
     let reply = tracker::own_book::claim_tracker_transfer_in(
@@ -40,7 +41,8 @@ pub fn close_lent(
     message: &[u8],
     claims: &mut [u8],
 ) -> Done
-    ensures { λ r. ⌜ Gives (now (calendar .entry)) (now (tables .entry)) book (now (balances .entry)) (Call.close (record { message = now (message .entry); buffer = now (claims .entry) })) r (now (claims .exit)) (now (balances .exit)) ⌝ }
+    ensures { λ r. ⌜ Gives (now (calendar .entry)) (now (tables .entry)) book (now (balances .entry))
+        (Call.close (record { message = now (message .entry); buffer = now (claims .entry) })) r (now (claims .exit)) (now (balances .exit)) ⌝ }
 {
     let mut own = book;
     let reply = tracker::own_book::claim_tracker_close_in(

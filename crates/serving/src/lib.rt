@@ -81,7 +81,8 @@ fn call(
     claims: &mut [u8],
 ) -> Done
     requires { ⌜ firstOf (bookCauses (now calendar) (now tables) (book .day) (now balances)) ≡ 0 ⌝ }
-    ensures { λ r. ⌜ left r (now (claims .exit)) (now (balances .exit)) ≡ result (now (calendar .entry)) (now (tables .entry)) book (now (balances .entry)) (callWith (now (claims .entry)) (now (message .entry))) ⌝ }
+    ensures { λ r. ⌜ left r (now (claims .exit)) (now (balances .exit))
+        ≡ result (now (calendar .entry)) (now (tables .entry)) book (now (balances .entry)) (callWith (now (claims .entry)) (now (message .entry))) ⌝ }
 {
     if let ReadClose::Is = reading::read_close(message) {
         return closes::close_sound(calendar, tables, book, balances, message, claims);
@@ -108,7 +109,8 @@ fn work(
     room: usize,
 ) -> Worked
     requires { ⌜ (firstOf (bookCauses (now calendar) (now tables) (book .day) (now balances)) ≡ 0) × (65542 ≤ length (now output)) × (room ≡ claimRoom) ⌝ }
-    ensures { λ r. ⌜ worked r (now (balances .exit)) (now (output .exit)) ≡ working (now (calendar .entry)) (now (tables .entry)) book (now (balances .entry)) (now (message .entry)) (now (output .entry)) ⌝ }
+    ensures { λ r. ⌜ worked r (now (balances .exit)) (now (output .exit))
+        ≡ working (now (calendar .entry)) (now (tables .entry)) book (now (balances .entry)) (now (message .entry)) (now (output .entry)) ⌝ }
 {
     let done = call(
         calendar,
@@ -153,7 +155,10 @@ fn serve_sound(
     output: &mut [u8],
 ) -> Served
     requires { ⌜ firstOf (bookCauses (now calendar) (now tables) (book .day) (now balances)) ≡ 0 ⌝ }
-    ensures { λ r. ⌜ leftServed r (now (balances .exit)) (now (output .exit)) ≡ leavesFor 0 book (now (balances .entry)) (now (output .entry)) (serving (now (calendar .entry)) (now (tables .entry)) ended book (now (balances .entry)) (now (input .entry)) (length (now (output .entry)))) ⌝ }
+    ensures { λ r. ⌜ leftServed r (now (balances .exit)) (now (output .exit))
+        ≡ leavesFor 0 book (now (balances .entry)) (now (output .entry))
+        (serving (now (calendar .entry)) (now (tables .entry)) ended book (now (balances .entry)) (now (input .entry))
+        (length (now (output .entry)))) ⌝ }
 {
     let mut b = book;
     let mut at: usize = 0;
@@ -195,7 +200,8 @@ pub fn serve(
     ended: bool,
     output: &mut [u8],
 ) -> Served
-    ensures { λ r. ⌜ leftServed r (now (balances .exit)) (now (output .exit)) ≡ leaves (now (calendar .entry)) (now (tables .entry)) ended book (now (balances .entry)) (now (input .entry)) (now (output .entry)) ⌝ }
+    ensures { λ r. ⌜ leftServed r (now (balances .exit)) (now (output .exit))
+        ≡ leaves (now (calendar .entry)) (now (tables .entry)) ended book (now (balances .entry)) (now (input .entry)) (now (output .entry)) ⌝ }
 {
     let number = judging::book_number(calendar, tables, book.day, balances);
     if number != 0 {

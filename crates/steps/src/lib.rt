@@ -44,7 +44,8 @@ pub fn begin(
     output: &mut [u8],
 ) -> Held
     requires { ⌜ (length (now calendar) ≡ 480) × (length (now tables) ≡ 1824) × (6 ≤ length (now output)) ⌝ }
-    ensures { λ r. ⌜ leftBeginning r (now (calendar .exit)) (now (tables .exit)) (now (balances .exit)) (now (output .exit)) ≡ begins (now (file .entry)) (now (calendar .entry)) (now (tables .entry)) (now (balances .entry)) (now (output .entry)) ⌝ }
+    ensures { λ r. ⌜ leftBeginning r (now (calendar .exit)) (now (tables .exit)) (now (balances .exit)) (now (output .exit))
+        ≡ begins (now (file .entry)) (now (calendar .entry)) (now (tables .entry)) (now (balances .entry)) (now (output .entry)) ⌝ }
 {
     if file.len() != BOOK_BYTES {
         return refuse(output, 1);
@@ -160,7 +161,8 @@ pub fn step(
     output: &mut [u8],
 ) -> Held
     requires { ⌜ held .left + got ≤ length (now input) ⌝ }
-    ensures { λ r. ⌜ holding r (now (balances .exit)) (now (input .exit)) (now (output .exit)) ≡ stepped (now (calendar .entry)) (now (tables .entry)) (holding held (now (balances .entry)) (now (input .entry)) (now (output .entry))) got ⌝ }
+    ensures { λ r. ⌜ holding r (now (balances .exit)) (now (input .exit)) (now (output .exit))
+        ≡ stepped (now (calendar .entry)) (now (tables .entry)) (holding held (now (balances .entry)) (now (input .entry)) (now (output .entry))) got ⌝ }
 {
     if held.over {
         return rest(held);

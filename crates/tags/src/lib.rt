@@ -30,7 +30,8 @@ struct Found {
 // The openers of a line, which is searched up to its end.
 fn scan(line: &[u8]) -> Found
     requires { ⌜ length (now line) ≡ 64 ⌝ }
-    ensures { λ r. ⌜ (r .count ≡ length (openers (now (line .entry)))) × (r .first ≡ getD (openers (now (line .entry))) 0 0) × (r .first ≤ 54) × (r .count ≤ 55) ⌝ }
+    ensures { λ r. ⌜ (r .count ≡ length (openers (now (line .entry)))) × (r .first ≡ getD (openers (now (line .entry))) 0 0)
+        × (r .first ≤ 54) × (r .count ≤ 55) ⌝ }
 {
     let mut count: usize = 0;
     let mut first: usize = 0;
@@ -81,7 +82,8 @@ fn braces(line: &[u8]) -> u8
 // The openers of a line: only one that has a { is searched.
 fn openers_in(line: &[u8]) -> Found
     requires { ⌜ length (now line) ≡ 64 ⌝ }
-    ensures { λ r. ⌜ (r .count ≡ length (openers (now (line .entry)))) × (r .first ≡ getD (openers (now (line .entry))) 0 0) × (r .first ≤ 54) × (r .count ≤ 55) ⌝ }
+    ensures { λ r. ⌜ (r .count ≡ length (openers (now (line .entry)))) × (r .first ≡ getD (openers (now (line .entry))) 0 0)
+        × (r .first ≤ 54) × (r .count ≤ 55) ⌝ }
 {
     if braces(line) == 0 {
         return Found { count: 0, first: 0 };

@@ -15,7 +15,8 @@ pub extern "C" fn claim_tracker_open(
     balances: &mut [u64],
     day: u32,
 ) -> Done
-    ensures { λ r. ⌜ (leftOpen r (now (balances .exit)) ≡ opened (now (calendar .entry)) (now (tables .entry)) (now (balances .entry)) day) × (r .claims ≡ 0) ⌝ }
+    ensures { λ r. ⌜ (leftOpen r (now (balances .exit)) ≡ opened (now (calendar .entry)) (now (tables .entry)) (now (balances .entry)) day)
+        × (r .claims ≡ 0) ⌝ }
 {
     opens::open(calendar, tables, balances, day)
 }
@@ -31,7 +32,8 @@ pub extern "C" fn claim_tracker_transfer(
     message: &[u8],
     claims: &mut [u8],
 ) -> Done
-    ensures { λ r. ⌜ Gives (now (calendar .entry)) (now (tables .entry)) book (now (balances .entry)) (publishedTransfer (record { message = now (message .entry); buffer = now (claims .entry) })) r (now (claims .exit)) (now (balances .exit)) ⌝ }
+    ensures { λ r. ⌜ Gives (now (calendar .entry)) (now (tables .entry)) book (now (balances .entry))
+        (publishedTransfer (record { message = now (message .entry); buffer = now (claims .entry) })) r (now (claims .exit)) (now (balances .exit)) ⌝ }
 {
     transfers::transfer(calendar, tables, book, balances, message, claims)
 }
@@ -48,7 +50,9 @@ pub extern "C" fn claim_tracker_transfer_with_limits(
     message: &[u8],
     claims: &mut [u8],
 ) -> Done
-    ensures { λ r. ⌜ Gives (now (calendar .entry)) (now (tables .entry)) book (now (balances .entry)) (Call.transfer (record { message = now (message .entry); buffer = now (claims .entry); limits = now (limits .entry) })) r (now (claims .exit)) (now (balances .exit)) ⌝ }
+    ensures { λ r. ⌜ Gives (now (calendar .entry)) (now (tables .entry)) book (now (balances .entry))
+        (Call.transfer (record { message = now (message .entry); buffer = now (claims .entry); limits = now (limits .entry) }))
+        r (now (claims .exit)) (now (balances .exit)) ⌝ }
 {
     transfers::transfer_with_limits(calendar, tables, limits, book, balances, message, claims)
 }
@@ -64,7 +68,8 @@ pub extern "C" fn claim_tracker_close(
     message: &[u8],
     claims: &mut [u8],
 ) -> Done
-    ensures { λ r. ⌜ Gives (now (calendar .entry)) (now (tables .entry)) book (now (balances .entry)) (Call.close (record { message = now (message .entry); buffer = now (claims .entry) })) r (now (claims .exit)) (now (balances .exit)) ⌝ }
+    ensures { λ r. ⌜ Gives (now (calendar .entry)) (now (tables .entry)) book (now (balances .entry))
+        (Call.close (record { message = now (message .entry); buffer = now (claims .entry) })) r (now (claims .exit)) (now (balances .exit)) ⌝ }
 {
     closes::close(calendar, tables, book, balances, message, claims)
 }

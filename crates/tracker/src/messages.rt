@@ -151,7 +151,8 @@ pub extern "C" fn claim_tracker_write_transfer(
     first_line: &[u8; 64],
     second_line: &[u8; 64],
 ) -> u16
-    ensures { λ r. ⌜ record { number = r; buffer = now (buffer .exit) } ≡ writing transferKind (transferValues transfer) (now («first_line» .entry) ++ now («second_line» .entry)) (now (buffer .entry)) ⌝ }
+    ensures { λ r. ⌜ record { number = r; buffer = now (buffer .exit) }
+        ≡ writing transferKind (transferValues transfer) (now («first_line» .entry) ++ now («second_line» .entry)) (now (buffer .entry)) ⌝ }
 {
     number_of(writing::write_transfer(buffer, transfer, first_line, second_line))
 }

@@ -20,7 +20,9 @@ pub extern "C" fn claim_tracker_transfer_in(
     message: &[u8],
     claims: &mut [u8],
 ) -> Reply
-    ensures { λ r. ⌜ Gives (now (calendar .entry)) (now (tables .entry)) (now (book .entry)) (now (balances .entry)) (publishedTransfer (record { message = now (message .entry); buffer = now (claims .entry) })) (together r (now (book .exit))) (now (claims .exit)) (now (balances .exit)) ⌝ }
+    ensures { λ r. ⌜ Gives (now (calendar .entry)) (now (tables .entry)) (now (book .entry)) (now (balances .entry))
+        (publishedTransfer (record { message = now (message .entry); buffer = now (claims .entry) })) (together r (now (book .exit)))
+        (now (claims .exit)) (now (balances .exit)) ⌝ }
 {
     let d = crate::calls::claim_tracker_transfer(
         calendar,
@@ -47,7 +49,9 @@ pub extern "C" fn claim_tracker_close_in(
     message: &[u8],
     claims: &mut [u8],
 ) -> Reply
-    ensures { λ r. ⌜ Gives (now (calendar .entry)) (now (tables .entry)) (now (book .entry)) (now (balances .entry)) (Call.close (record { message = now (message .entry); buffer = now (claims .entry) })) (together r (now (book .exit))) (now (claims .exit)) (now (balances .exit)) ⌝ }
+    ensures { λ r. ⌜ Gives (now (calendar .entry)) (now (tables .entry)) (now (book .entry)) (now (balances .entry))
+        (Call.close (record { message = now (message .entry); buffer = now (claims .entry) })) (together r (now (book .exit)))
+        (now (claims .exit)) (now (balances .exit)) ⌝ }
 {
     let d = crate::calls::claim_tracker_close(calendar, tables, *book, balances, message, claims);
     *book = d.book;

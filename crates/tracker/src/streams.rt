@@ -17,7 +17,8 @@ pub extern "C" fn claim_tracker_serve(
     ended: bool,
     output: &mut [u8],
 ) -> Served
-    ensures { λ r. ⌜ leftServed r (now (balances .exit)) (now (output .exit)) ≡ leaves (now (calendar .entry)) (now (tables .entry)) ended book (now (balances .entry)) (now (input .entry)) (now (output .entry)) ⌝ }
+    ensures { λ r. ⌜ leftServed r (now (balances .exit)) (now (output .exit))
+        ≡ leaves (now (calendar .entry)) (now (tables .entry)) ended book (now (balances .entry)) (now (input .entry)) (now (output .entry)) ⌝ }
 {
     serving::serve(calendar, tables, book, balances, input, ended, output)
 }

@@ -87,8 +87,11 @@ fn transfer_read(
     claims: &mut [u8],
     t: Transfer,
 ) -> Done
-    requires { ⌜ (firstOf (lentBookCauses (now calendar) (now tables) (now limits) (book .day) (now balances)) ≡ 0) × (reads transferKind (now message) ≡ true) × (t ≡ transferOf (now message)) ⌝ }
-    ensures { λ r. ⌜ left r (now (claims .exit)) (now (balances .exit)) ≡ result (now (calendar .entry)) (now (tables .entry)) book (now (balances .entry)) (Call.transfer (record { message = now (message .entry); buffer = now (claims .entry); limits = now (limits .entry) })) ⌝ }
+    requires { ⌜ (firstOf (lentBookCauses (now calendar) (now tables) (now limits) (book .day) (now balances)) ≡ 0)
+        × (reads transferKind (now message) ≡ true) × (t ≡ transferOf (now message)) ⌝ }
+    ensures { λ r. ⌜ left r (now (claims .exit)) (now (balances .exit))
+        ≡ result (now (calendar .entry)) (now (tables .entry)) book (now (balances .entry))
+        (Call.transfer (record { message = now (message .entry); buffer = now (claims .entry); limits = now (limits .entry) })) ⌝ }
 {
     let tag = tags::tag_of(reading::first_line(message), reading::second_line(message));
     let number = own_number(tables, book, balances, t, tag);
@@ -122,7 +125,9 @@ fn sound_with_limits(
     claims: &mut [u8],
 ) -> Done
     requires { ⌜ firstOf (lentBookCauses (now calendar) (now tables) (now limits) (book .day) (now balances)) ≡ 0 ⌝ }
-    ensures { λ r. ⌜ left r (now (claims .exit)) (now (balances .exit)) ≡ result (now (calendar .entry)) (now (tables .entry)) book (now (balances .entry)) (Call.transfer (record { message = now (message .entry); buffer = now (claims .entry); limits = now (limits .entry) })) ⌝ }
+    ensures { λ r. ⌜ left r (now (claims .exit)) (now (balances .exit))
+        ≡ result (now (calendar .entry)) (now (tables .entry)) book (now (balances .entry))
+        (Call.transfer (record { message = now (message .entry); buffer = now (claims .entry); limits = now (limits .entry) })) ⌝ }
 {
     let ReadTransfer::Is(t) = reading::read_transfer(message) else {
         return book::refused(5, book);
@@ -140,7 +145,9 @@ pub fn transfer_with_limits(
     message: &[u8],
     claims: &mut [u8],
 ) -> Done
-    ensures { λ r. ⌜ left r (now (claims .exit)) (now (balances .exit)) ≡ result (now (calendar .entry)) (now (tables .entry)) book (now (balances .entry)) (Call.transfer (record { message = now (message .entry); buffer = now (claims .entry); limits = now (limits .entry) })) ⌝ }
+    ensures { λ r. ⌜ left r (now (claims .exit)) (now (balances .exit))
+        ≡ result (now (calendar .entry)) (now (tables .entry)) book (now (balances .entry))
+        (Call.transfer (record { message = now (message .entry); buffer = now (claims .entry); limits = now (limits .entry) })) ⌝ }
 {
     let number = judging::transfer_number(calendar, tables, limits, book.day, balances);
     if number != 0 {
@@ -159,7 +166,9 @@ pub fn transfer_sound(
     claims: &mut [u8],
 ) -> Done
     requires { ⌜ firstOf (bookCauses (now calendar) (now tables) (book .day) (now balances)) ≡ 0 ⌝ }
-    ensures { λ r. ⌜ left r (now (claims .exit)) (now (balances .exit)) ≡ result (now (calendar .entry)) (now (tables .entry)) book (now (balances .entry)) (publishedTransfer (record { message = now (message .entry); buffer = now (claims .entry) })) ⌝ }
+    ensures { λ r. ⌜ left r (now (claims .exit)) (now (balances .exit))
+        ≡ result (now (calendar .entry)) (now (tables .entry)) book (now (balances .entry))
+        (publishedTransfer (record { message = now (message .entry); buffer = now (claims .entry) })) ⌝ }
 {
     let numbers = MAXIMUM_NUMBERS;
     sound_with_limits(calendar, tables, &numbers, book, balances, message, claims)
@@ -174,7 +183,9 @@ pub fn transfer(
     message: &[u8],
     claims: &mut [u8],
 ) -> Done
-    ensures { λ r. ⌜ left r (now (claims .exit)) (now (balances .exit)) ≡ result (now (calendar .entry)) (now (tables .entry)) book (now (balances .entry)) (publishedTransfer (record { message = now (message .entry); buffer = now (claims .entry) })) ⌝ }
+    ensures { λ r. ⌜ left r (now (claims .exit)) (now (balances .exit))
+        ≡ result (now (calendar .entry)) (now (tables .entry)) book (now (balances .entry))
+        (publishedTransfer (record { message = now (message .entry); buffer = now (claims .entry) })) ⌝ }
 {
     let numbers = MAXIMUM_NUMBERS;
     transfer_with_limits(calendar, tables, &numbers, book, balances, message, claims)

@@ -41,7 +41,8 @@ fn put_bytes(buffer: &mut [u8], at: usize, bytes: &[u8])
 
 // A transfer with its two lines of free text, written to the buffer's start.
 pub fn write_transfer(buffer: &mut [u8], t: Transfer, first: &[u8; 64], second: &[u8; 64]) -> Wrote
-    ensures { λ r. ⌜ record { number = wroteNumber r; buffer = now (buffer .exit) } ≡ writing transferKind (transferValues t) (now (first .entry) ++ now (second .entry)) (now (buffer .entry)) ⌝ }
+    ensures { λ r. ⌜ record { number = wroteNumber r; buffer = now (buffer .exit) }
+        ≡ writing transferKind (transferValues t) (now (first .entry) ++ now (second .entry)) (now (buffer .entry)) ⌝ }
 {
     if buffer.len() < 141 {
         return Wrote::Short;
