@@ -11,7 +11,7 @@ ghost use Rattle.claims.specs.Passes.{Free, Passed};
 ghost use Rattle.claims.specs.Turns.{SoundClose, small};
 ghost use Rattle.book.specs.Soundness.{bookCauses};
 ghost use Rattle.history.specs.Calls.{Call};
-ghost use Rattle.history.specs.Results.{left, result};
+ghost use Rattle.history.specs.Results.{Gives};
 use book::Book;
 use book::Done;
 use days::Day;
@@ -60,9 +60,8 @@ pub fn close_sound(
     claims: &mut [u8],
 ) -> Done
     requires { ⌜ firstOf (bookCauses (now calendar) (now tables) (book .day) (now balances)) ≡ 0 ⌝ }
-    ensures { λ r. ⌜ left r (now (claims .exit)) (now (balances .exit))
-        ≡ result (now (calendar .entry)) (now (tables .entry)) book (now (balances .entry))
-        (Call.close (record { message = now (message .entry); buffer = now (claims .entry) })) ⌝ }
+    ensures { λ r. ⌜ Gives (now (calendar .entry)) (now (tables .entry)) book (now (balances .entry))
+        (Call.close (record { message = now (message .entry); buffer = now (claims .entry) })) r (now (claims .exit)) (now (balances .exit)) ⌝ }
 {
     if let ReadClose::Refused = reading::read_close(message) {
         return book::refused(5, book);
@@ -94,9 +93,8 @@ pub fn close(
     message: &[u8],
     claims: &mut [u8],
 ) -> Done
-    ensures { λ r. ⌜ left r (now (claims .exit)) (now (balances .exit))
-        ≡ result (now (calendar .entry)) (now (tables .entry)) book (now (balances .entry))
-        (Call.close (record { message = now (message .entry); buffer = now (claims .entry) })) ⌝ }
+    ensures { λ r. ⌜ Gives (now (calendar .entry)) (now (tables .entry)) book (now (balances .entry))
+        (Call.close (record { message = now (message .entry); buffer = now (claims .entry) })) r (now (claims .exit)) (now (balances .exit)) ⌝ }
 {
     let number = judging::book_number(calendar, tables, book.day, balances);
     if number != 0 {

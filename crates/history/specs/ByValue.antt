@@ -6,7 +6,7 @@ use Prim.Native.Nat.{ℕ}
 use Rattle.book.specs.declared.Book.{Book}
 use Rattle.book.specs.declared.Done.{Done}
 use Rattle.history.specs.Calls.{Call}
-use Rattle.history.specs.Results.{Result, Run, left, result, leftOpen, opened}
+use Rattle.history.specs.Results.{Result, Run, Gives, left, result, leftOpen, opened}
 use Rattle.history.specs.Ledger.{Ledger, started, bookOf, balancesOf, judged}
 use Rattle.history.specs.Statement.{AgreesWithLedger}
 use Rattle.history.specs.Continuation.{SoundLedger, GoesOn}
@@ -23,7 +23,7 @@ AllKeep calendar tables book balances [] [] = Unit {0}
 AllKeep calendar tables book balances [] (s ∷ steps) = ⊥
 AllKeep calendar tables book balances (call ∷ calls) [] = ⊥
 AllKeep calendar tables book balances (call ∷ calls) (s ∷ steps) =
-    (left (s .done) (s .buffer) (s .balances) ≡ result calendar tables book balances call)
+    Gives calendar tables book balances call (s .done) (s .buffer) (s .balances)
     × AllKeep calendar tables (s .done .book) (s .balances) calls steps
 
 -- The step that a call's result is.

@@ -1,4 +1,5 @@
--- The calls of a list, their arguments, and the claims that they give. All calls of a list get the same calendar and tables.
+-- The calls of a list, their arguments, and the claims that they give. All calls of a list get the same calendar and tables; each transfer
+-- has date limits of its own (document 02, card 5).
 use mathlib.Core.List.{List}
 use Prim.Native.Nat.{ℕ, _+_}
 use Rattle.records.specs.declared.Claim.{Claim}

@@ -1,5 +1,6 @@
 -- What opening, transfer and close answer and leave, on any book and balances: the equations of the calls' contracts. Then a list of
 -- calls, each on the book and balances that the last one left.
+use mathlib.Core.Path.{_≡_}
 use mathlib.Core.List.{List, [], _∷_}
 use Prim.Native.Nat.{ℕ, zero, suc, _+_}
 use lib.ListN.{length, replicate}
@@ -59,6 +60,11 @@ left d buffer balances =
 -- What a transfer or a close answers and leaves.
 unfoldable pub result : List ℕ → List ℕ → Book → List ℕ → Call → Result
 result calendar tables book balances call = resultFor (numberFor calendar tables book balances call) calendar tables book balances call
+
+-- The promise of a transfer and of a close: on calendar, tables, book and balances as it finds them, the call gives the answer of its result
+-- and leaves the claim buffer and the balances of its result.
+abbrev pub Gives : List ℕ → List ℕ → Book → List ℕ → Call → Done → List ℕ → List ℕ → Type 0
+Gives calendar tables book balances call d buffer after = left d buffer after ≡ result calendar tables book balances call
 
 -- ---- opening
 

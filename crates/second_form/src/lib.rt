@@ -1,6 +1,6 @@
 // By-value callers of the second form: each keeps a book of its own, lends it to the call, and returns it as the call leaves it.
 ghost use Rattle.history.specs.Calls.{Call, publishedTransfer};
-ghost use Rattle.tracker.specs.Forms.{Gives};
+ghost use Rattle.history.specs.Results.{Gives};
 use book::Book;
 use book::Done;
 

@@ -7,7 +7,7 @@ ghost use lib.ListN.{length};
 ghost use Rattle.lists.specs.First.{firstOf};
 ghost use Rattle.lists.specs.Put.{put};
 ghost use Rattle.book.specs.Soundness.{bookCauses};
-ghost use Rattle.history.specs.Results.{left, result};
+ghost use Rattle.history.specs.Results.{Gives};
 ghost use Rattle.records.specs.MessageRecords.{header};
 ghost use Rattle.stream.specs.Stream.{next, claimRoom, callWith, answerBytes};
 ghost use Rattle.stream.specs.Serving.{worked, working, serving, isFull, leftServed, leavesFor, leaves};
@@ -81,8 +81,8 @@ fn call(
     claims: &mut [u8],
 ) -> Done
     requires { ⌜ firstOf (bookCauses (now calendar) (now tables) (book .day) (now balances)) ≡ 0 ⌝ }
-    ensures { λ r. ⌜ left r (now (claims .exit)) (now (balances .exit))
-        ≡ result (now (calendar .entry)) (now (tables .entry)) book (now (balances .entry)) (callWith (now (claims .entry)) (now (message .entry))) ⌝ }
+    ensures { λ r. ⌜ Gives (now (calendar .entry)) (now (tables .entry)) book (now (balances .entry))
+        (callWith (now (claims .entry)) (now (message .entry))) r (now (claims .exit)) (now (balances .exit)) ⌝ }
 {
     if let ReadClose::Is = reading::read_close(message) {
         return closes::close_sound(calendar, tables, book, balances, message, claims);

@@ -41,8 +41,9 @@ use denote.Exit.{yes}
 use Rattle.book.specs.declared.Book.{Book}
 use Rattle.book.specs.declared.Done.{Done}
 use Rattle.history.specs.Calls.{Arguments, Call}
+use Rattle.history.specs.Results.{Gives}
 use Rattle.tracker.specs.declared.own_book.Reply.{Reply}
-use Rattle.tracker.specs.Forms.{Gives, together}
+use Rattle.tracker.specs.Forms.{together}
 use Rattle.book.proofs.Book as T
 use Rattle.book.proofs.Book.Laws as T′
 use Rattle.book.proofs.Done as D

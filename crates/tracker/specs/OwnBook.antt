@@ -1,15 +1,16 @@
 -- Lists of calls in the second form. Each call keeps its contract on the caller's own book and balances as the last one left them.
--- Demand 3 holds of such a list as it holds of the by-value calls.
+-- Demand 3 holds of such a list as it holds of the by-value calls. A transfer of the second form has the published limits; a transfer with
+-- other limits, by value, may stand in the list too, if the caller's book becomes the one that it returns.
 use mathlib.Core.Path.{_≡_}
 use mathlib.Core.List.{List, [], _∷_}
 use Prim.Native.Nat.{ℕ}
 use Rattle.book.specs.declared.Book.{Book}
 use Rattle.history.specs.Calls.{Call}
-use Rattle.history.specs.Results.{Result, Run, left, result, run, opened}
+use Rattle.history.specs.Results.{Result, Run, Gives, left, result, run, opened}
 use Rattle.history.specs.Ledger.{started, judged}
 use Rattle.history.specs.Statement.{AgreesWithLedger}
 use Rattle.tracker.specs.declared.own_book.Reply.{Reply}
-use Rattle.tracker.specs.Forms.{Gives, together}
+use Rattle.tracker.specs.Forms.{together}
 
 -- A call of a list: its reply, and the caller's book, claim buffer and balances after it.
 pub record Step : Type 0 where

@@ -1,8 +1,7 @@
 // Opening, transfer and close for C and Rust callers. A slice passes as a pointer and a count of its elements.
 ghost use mathlib.Core.Path.{_≡_};
 ghost use Rattle.history.specs.Calls.{Call, publishedTransfer};
-ghost use Rattle.history.specs.Results.{leftOpen, opened};
-ghost use Rattle.tracker.specs.Forms.{Gives};
+ghost use Rattle.history.specs.Results.{Gives, leftOpen, opened};
 use book::Book;
 use book::Done;
 

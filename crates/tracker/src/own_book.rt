@@ -1,6 +1,7 @@
 // Transfer and close in the second form: the call updates the day and transfer count of the caller's own book.
 ghost use Rattle.history.specs.Calls.{Call, publishedTransfer};
-ghost use Rattle.tracker.specs.Forms.{Gives, together};
+ghost use Rattle.history.specs.Results.{Gives};
+ghost use Rattle.tracker.specs.Forms.{together};
 use book::Book;
 
 // What a call of the second form replies: its number, and how many claims it wrote.

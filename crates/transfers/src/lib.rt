@@ -9,7 +9,7 @@ ghost use Rattle.records.specs.MessageRecords.{transferKind, transferOf, reads}
 ghost use Rattle.book.specs.Soundness.{bookCauses, lentBookCauses};
 ghost use Rattle.history.specs.Calls.{Call, publishedTransfer};
 ghost use Rattle.history.specs.Causes.{outOfRange, transferCauses};
-ghost use Rattle.history.specs.Results.{left, result};
+ghost use Rattle.history.specs.Results.{Gives};
 use book::Book;
 use book::Done;
 use records::ReadTransfer;
@@ -89,9 +89,9 @@ fn transfer_read(
 ) -> Done
     requires { ⌜ (firstOf (lentBookCauses (now calendar) (now tables) (now limits) (book .day) (now balances)) ≡ 0)
         × (reads transferKind (now message) ≡ true) × (t ≡ transferOf (now message)) ⌝ }
-    ensures { λ r. ⌜ left r (now (claims .exit)) (now (balances .exit))
-        ≡ result (now (calendar .entry)) (now (tables .entry)) book (now (balances .entry))
-        (Call.transfer (record { message = now (message .entry); buffer = now (claims .entry); limits = now (limits .entry) })) ⌝ }
+    ensures { λ r. ⌜ Gives (now (calendar .entry)) (now (tables .entry)) book (now (balances .entry))
+        (Call.transfer (record { message = now (message .entry); buffer = now (claims .entry); limits = now (limits .entry) }))
+        r (now (claims .exit)) (now (balances .exit)) ⌝ }
 {
     let tag = tags::tag_of(reading::first_line(message), reading::second_line(message));
     let number = own_number(tables, book, balances, t, tag);
@@ -125,9 +125,9 @@ fn sound_with_limits(
     claims: &mut [u8],
 ) -> Done
     requires { ⌜ firstOf (lentBookCauses (now calendar) (now tables) (now limits) (book .day) (now balances)) ≡ 0 ⌝ }
-    ensures { λ r. ⌜ left r (now (claims .exit)) (now (balances .exit))
-        ≡ result (now (calendar .entry)) (now (tables .entry)) book (now (balances .entry))
-        (Call.transfer (record { message = now (message .entry); buffer = now (claims .entry); limits = now (limits .entry) })) ⌝ }
+    ensures { λ r. ⌜ Gives (now (calendar .entry)) (now (tables .entry)) book (now (balances .entry))
+        (Call.transfer (record { message = now (message .entry); buffer = now (claims .entry); limits = now (limits .entry) }))
+        r (now (claims .exit)) (now (balances .exit)) ⌝ }
 {
     let ReadTransfer::Is(t) = reading::read_transfer(message) else {
         return book::refused(5, book);
@@ -145,9 +145,9 @@ pub fn transfer_with_limits(
     message: &[u8],
     claims: &mut [u8],
 ) -> Done
-    ensures { λ r. ⌜ left r (now (claims .exit)) (now (balances .exit))
-        ≡ result (now (calendar .entry)) (now (tables .entry)) book (now (balances .entry))
-        (Call.transfer (record { message = now (message .entry); buffer = now (claims .entry); limits = now (limits .entry) })) ⌝ }
+    ensures { λ r. ⌜ Gives (now (calendar .entry)) (now (tables .entry)) book (now (balances .entry))
+        (Call.transfer (record { message = now (message .entry); buffer = now (claims .entry); limits = now (limits .entry) }))
+        r (now (claims .exit)) (now (balances .exit)) ⌝ }
 {
     let number = judging::transfer_number(calendar, tables, limits, book.day, balances);
     if number != 0 {
@@ -166,9 +166,8 @@ pub fn transfer_sound(
     claims: &mut [u8],
 ) -> Done
     requires { ⌜ firstOf (bookCauses (now calendar) (now tables) (book .day) (now balances)) ≡ 0 ⌝ }
-    ensures { λ r. ⌜ left r (now (claims .exit)) (now (balances .exit))
-        ≡ result (now (calendar .entry)) (now (tables .entry)) book (now (balances .entry))
-        (publishedTransfer (record { message = now (message .entry); buffer = now (claims .entry) })) ⌝ }
+    ensures { λ r. ⌜ Gives (now (calendar .entry)) (now (tables .entry)) book (now (balances .entry))
+        (publishedTransfer (record { message = now (message .entry); buffer = now (claims .entry) })) r (now (claims .exit)) (now (balances .exit)) ⌝ }
 {
     let numbers = MAXIMUM_NUMBERS;
     sound_with_limits(calendar, tables, &numbers, book, balances, message, claims)
@@ -183,9 +182,8 @@ pub fn transfer(
     message: &[u8],
     claims: &mut [u8],
 ) -> Done
-    ensures { λ r. ⌜ left r (now (claims .exit)) (now (balances .exit))
-        ≡ result (now (calendar .entry)) (now (tables .entry)) book (now (balances .entry))
-        (publishedTransfer (record { message = now (message .entry); buffer = now (claims .entry) })) ⌝ }
+    ensures { λ r. ⌜ Gives (now (calendar .entry)) (now (tables .entry)) book (now (balances .entry))
+        (publishedTransfer (record { message = now (message .entry); buffer = now (claims .entry) })) r (now (claims .exit)) (now (balances .exit)) ⌝ }
 {
     let numbers = MAXIMUM_NUMBERS;
     transfer_with_limits(calendar, tables, &numbers, book, balances, message, claims)
