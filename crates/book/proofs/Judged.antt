@@ -12,7 +12,7 @@ use Rattle.lists.specs.Tests.{and-left, and-right, or-false-left, or-false-righ
 use Rattle.lists.specs.First.{NoneApplies, firstOf, numbered, appliesAt, cleared, cleared-by, none-applies}
 use Rattle.days.specs.Days.{badCalendar, isOpen, openAfter}
 use Rattle.days.proofs.OpenDays.{Kept}
-use Rattle.securities.specs.Lent.{goodLimits}
+use Rattle.securities.specs.Lent.{goodLimits, goodPieces}
 use Rattle.securities.specs.Securities.{goodTables}
 use Rattle.securities.proofs.Sound.{five-limits}
 use Rattle.book.specs.Book.{Position, InRange, word, position, balanceAt}
@@ -151,32 +151,36 @@ pub sound-number : (calendar tables : List ℕ) (day : ℕ) (balances : List ℕ
 sound-number calendar tables day balances z =
     sound-book calendar tables day balances (none-applies _ (numbered-book calendar tables day balances) z)
 
--- ---- a transfer that is lent limits: numbers 1 to 4, and 12
+-- ---- a transfer, which is lent limits and pieces: numbers 1 to 4, 12 and 13
 
-module _ (calendar tables limits : List ℕ) (day : ℕ) (balances : List ℕ) where
-  pub numbered-lent : numbered (lentBookCauses calendar tables limits day balances) ≡ true
+module _ (calendar tables limits pieces : List ℕ) (day : ℕ) (balances : List ℕ) where
+  pub numbered-lent : numbered (lentBookCauses calendar tables limits pieces day balances) ≡ true
   unfolding numbered lentBookCauses tableCauses lentCauses stateCauses
   numbered-lent = refl
 
   -- where none of them applies, none of 1 to 4 does
-  pub lent-none : NoneApplies (lentBookCauses calendar tables limits day balances) → NoneApplies (bookCauses calendar tables day balances)
+  pub lent-none : NoneApplies (lentBookCauses calendar tables limits pieces day balances) → NoneApplies (bookCauses calendar tables day balances)
   unfolding lentBookCauses bookCauses tableCauses lentCauses stateCauses appliesAt
   lent-none n =
-      let cs = lentBookCauses calendar tables limits day balances in
+      let cs = lentBookCauses calendar tables limits pieces day balances in
       (cleared-by 1 cs n, (cleared-by 2 cs n, (cleared-by 3 cs n, (cleared-by 4 cs n, tt))))
 
-  pub lent-sound : firstOf (lentBookCauses calendar tables limits day balances) ≡ 0 → SoundBook calendar tables day balances
+  pub lent-sound : firstOf (lentBookCauses calendar tables limits pieces day balances) ≡ 0 → SoundBook calendar tables day balances
   lent-sound z = sound-book calendar tables day balances (lent-none (none-applies _ numbered-lent z))
 
-  pub lent-limits : firstOf (lentBookCauses calendar tables limits day balances) ≡ 0 → length limits ≡ 5
+  pub lent-limits : firstOf (lentBookCauses calendar tables limits pieces day balances) ≡ 0 → length limits ≡ 5
   unfolding lentBookCauses tableCauses lentCauses stateCauses appliesAt
-  lent-limits z = five-limits limits (not-false _ (cleared 12 (lentBookCauses calendar tables limits day balances) numbered-lent z))
+  lent-limits z = five-limits limits (not-false _ (cleared 12 (lentBookCauses calendar tables limits pieces day balances) numbered-lent z))
 
-  -- on a sound book good limits are sound
-  pub sound-lent : firstOf (bookCauses calendar tables day balances) ≡ 0 → goodLimits limits ≡ true
-      → firstOf (lentBookCauses calendar tables limits day balances) ≡ 0
+  pub lent-pieces : firstOf (lentBookCauses calendar tables limits pieces day balances) ≡ 0 → goodPieces pieces ≡ true
+  unfolding lentBookCauses tableCauses lentCauses stateCauses appliesAt
+  lent-pieces z = not-false _ (cleared 13 (lentBookCauses calendar tables limits pieces day balances) numbered-lent z)
+
+  -- on a sound book good limits and good pieces are sound
+  pub sound-lent : firstOf (bookCauses calendar tables day balances) ≡ 0 → goodLimits limits ≡ true → goodPieces pieces ≡ true
+      → firstOf (lentBookCauses calendar tables limits pieces day balances) ≡ 0
   unfolding lentBookCauses bookCauses tableCauses lentCauses stateCauses appliesAt firstOf
-  sound-lent z g =
+  sound-lent z g h =
       let cs = bookCauses calendar tables day balances in
       let n = none-applies cs (numbered-book calendar tables day balances) z in
-      rw (cleared-by 1 cs n, cleared-by 2 cs n, cleared-by 3 cs n, g, cleared-by 4 cs n)
+      rw (cleared-by 1 cs n, cleared-by 2 cs n, cleared-by 3 cs n, g, h, cleared-by 4 cs n)

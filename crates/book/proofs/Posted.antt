@@ -1,19 +1,21 @@
--- Posting an accepted transfer keeps the balances sound; before it, the laws of the code that gives the numbers 7 and 8, posts and clears.
+-- Posting an accepted transfer keeps the balances sound; before it, the laws of the code that gives the numbers 14, 7 and 8, posts and
+-- clears.
 use mathlib.Core.Path.{_≡_, refl, sym, ap, _∙_, subst}
-use mathlib.Core.Bool.{Bool, true, false, cond, not}
+use mathlib.Core.Bool.{Bool, true, false, cond, not, _||_}
 use mathlib.Core.List.{List, [], _∷_, _++_, append-nil}
-use Prim.Native.Nat.{ℕ, zero, suc, _+_, _-_, _≤_, _<_}
+use Prim.Native.Nat.{ℕ, zero, suc, _+_, _-_, _%_, _≤_, _<_}
 use native.Mathlib.Nat.{add-zero, zero-add, add-suc, suc-add}
 use native.Mathlib.Omega.{arith}
-use lib.Dec.{ltb}
+use lib.Dec.{eqb, ltb}
 use lib.ListN.{length, getD, set, drop, replicate, length-set, drop-of-length-le}
 use borrow.Author.Fill.{fill-none, fill-more}
-use borrow.Author.Tests.{lt-ltb, le-ltb, ltb-false, le-leb, ne-eqb, not-false}
+use borrow.Author.Tests.{lt-ltb, le-ltb, ltb-false, le-leb, eqb-true, eq-eqb, ne-eqb, not-false}
 use Rattle.lists.specs.Tests.{and-left, and-right, and-both, cond-true}
-use Rattle.lists.specs.First.{firstOf, numbered, appliesAt, cleared, hit, skip, none}
+use Rattle.lists.specs.First.{NoneApplies, firstOf, numbered, appliesAt, cleared, cleared-by, first-none, hit, skip, none}
 use Rattle.records.specs.declared.Transfer.{Transfer}
+use Rattle.securities.specs.Lent.{pieceOf}
 use Rattle.book.specs.Book.{Position, InRange, word, position, balanceAt}
-use Rattle.book.specs.Loans.{trackingOf, stepOf, increasing, decreasing, bySender, byReceiver, Change, unchanged, increase, decrease, changeOf, changed, aboveBalance, pastLimit, loanCauses}
+use Rattle.book.specs.Loans.{trackingOf, stepOf, increasing, decreasing, bySender, byReceiver, Change, unchanged, increase, decrease, changeOf, changed, aboveBalance, pastLimit, loanCauses, clearsBalance, offPiece, postingCauses}
 use Rattle.book.specs.Soundness.{goodBalance, goodBalancesFrom, badBalances}
 use Rattle.book.proofs.Words.{position-word}
 use Rattle.book.proofs.Judged.{sound-balances}
@@ -80,6 +82,50 @@ pub unchanged-accepted : (balances : List ℕ) (t : Transfer) → increasing (st
     → _≡_ {A = ℕ} 0 (firstOf (loanCauses balances t))
 unfolding loanCauses aboveBalance pastLimit
 unchanged-accepted balances t e f = rw (change-none t e f) (skip 7 _ refl (skip 8 _ refl none))
+
+-- ---- number 14
+
+-- a code that decreases does not increase
+decreases-only : (n : ℕ) → decreasing n ≡ true → increasing n ≡ false
+unfolding increasing decreasing
+decreases-only n e = go (eqb n 2) refl (eqb n 3) refl e
+  where
+    go : (a : Bool) → eqb n 2 ≡ a → (b : Bool) → eqb n 3 ≡ b → (a || b || eqb n 6) ≡ true → (eqb n 1 || eqb n 4 || eqb n 5) ≡ false
+    go true p b q e = rw (eqb-true n 2 p)
+    go false p true q e = rw (eqb-true n 3 q)
+    go false p false q e = rw (eqb-true n 6 e)
+
+module _ (pieces balances : List ℕ) (t : Transfer) where
+  pub on-piece : t .par % pieceOf pieces (t .security) ≡ 0 → false ≡ offPiece pieces balances t
+  unfolding offPiece
+  on-piece e = rw (eq-eqb (t .par % pieceOf pieces (t .security)) 0 e)
+
+  module _ (o : t .par % pieceOf pieces (t .security) ≡ 0 → ⊥) where
+    by-balance : not (clearsBalance balances (changeOf t) (t .par)) ≡ offPiece pieces balances t
+    unfolding offPiece
+    by-balance = rw (ne-eqb (t .par % pieceOf pieces (t .security)) 0 o)
+
+    -- a decrease: its balance decides
+    pub off-decrease : (w : ℕ) → decreasing (stepOf (t .code)) ≡ true → w ≡ word (byReceiver t)
+        → not (eqb (getD balances w 0) (t .par)) ≡ offPiece pieces balances t
+    unfolding clearsBalance balanceAt
+    off-decrease w f k = rw (k) (subst (λ (c : Change). not (clearsBalance balances c (t .par)) ≡ offPiece pieces balances t) (change-decrease t (decreases-only _ f) f) by-balance)
+
+    -- any other transfer
+    pub off-other : decreasing (stepOf (t .code)) ≡ false → true ≡ offPiece pieces balances t
+    unfolding clearsBalance
+    off-other f = go (increasing (stepOf (t .code))) refl
+      where
+        go : (b : Bool) → increasing (stepOf (t .code)) ≡ b → true ≡ offPiece pieces balances t
+        go true e = subst (λ (c : Change). not (clearsBalance balances c (t .par)) ≡ offPiece pieces balances t) (change-increase t e) by-balance
+        go false e = subst (λ (c : Change). not (clearsBalance balances c (t .par)) ≡ offPiece pieces balances t) (change-none t e f) by-balance
+
+  -- where none of 14, 7 and 8 applies, neither of 7 and 8 does
+  pub posting-clear : NoneApplies (postingCauses pieces balances t) → firstOf (loanCauses balances t) ≡ 0
+  unfolding postingCauses loanCauses appliesAt
+  posting-clear n =
+      let cs = postingCauses pieces balances t in
+      first-none (loanCauses balances t) (cleared-by 7 cs n, (cleared-by 8 cs n, tt))
 
 -- ---- an accepted transfer
 

@@ -1,5 +1,5 @@
--- Computed rows: what each tracking code does to 8,192 balances, when it is refused, and which calendars, tables, days and balances
--- are sound.
+-- Computed rows: what each tracking code does to 8,192 balances, when it is refused, which par is off its piece (document 02, card 6), and
+-- which calendars, tables, days, balances and pieces are sound.
 use mathlib.Core.Path.{_≡_, refl}
 use mathlib.Core.Bool.{Bool, true, cond, _&&_}
 use mathlib.Core.List.{List, [], _∷_}
@@ -11,7 +11,8 @@ use Rattle.lists.specs.First.{firstOf}
 use Rattle.days.specs.Weekdays.{weekdays}
 use Rattle.records.specs.declared.Transfer.{Transfer}
 use Rattle.securities.specs.Cases.{caseTables}
-use Rattle.book.specs.Loans.{changeOf, changed, aboveBalance, pastLimit}
+use Rattle.securities.specs.Lent.{ones}
+use Rattle.book.specs.Loans.{changeOf, changed, aboveBalance, pastLimit, postingCauses}
 use Rattle.book.specs.Soundness.{bookCauses, lentBookCauses, openingCauses}
 use Rattle.book.proofs.Opened.{openedBook}
 
@@ -81,6 +82,56 @@ holds r =
     && eqb (flag (aboveBalance held (changeOf t) (t .par))) (r .above)
     && eqb (flag (pastLimit held (changeOf t) (t .par))) (r .past)
 
+-- ---- pieces
+
+-- security 3 comes in pieces of 1,000, security 0 in pieces of 7; account 1 has lent account 2 40,500, and on repo 2,500
+pieces : List ℕ
+pieces = set (set ones 3 1000) 0 7
+
+odd : List ℕ
+odd = set (set (replicate 8192 0) (256 * 3 + 16 * 1 + 2) 40500) (4096 + 256 * 3 + 16 * 1 + 2) 2500
+
+posting : List ℕ → Transfer → ℕ → Bool
+posting lent t number = eqb (firstOf (postingCauses lent odd t)) number
+
+-- a transfer without a code, a start and a start of repo, on and off the piece
+posted : Bool
+posted =
+    posting pieces (sent 1 2 0 200000) 0
+    && posting pieces (sent 1 2 0 200500) 14
+    && posting pieces (sent 1 2 1 1000) 0
+    && posting pieces (sent 1 2 1 1500) 14
+    && posting pieces (sent 1 2 7 999) 14
+    && posting pieces (sent 1 2 13 500) 14
+    -- a return: the whole balance; less; off the piece; above the balance, on and off the piece
+    && posting pieces (sent 2 1 3 40500) 0
+    && posting pieces (sent 2 1 3 40000) 0
+    && posting pieces (sent 2 1 3 500) 14
+    && posting pieces (sent 2 1 3 41000) 7
+    && posting pieces (sent 2 1 3 41500) 14
+    && posting pieces (sent 2 1 2 40500) 0
+    && posting pieces (sent 2 1 6 40500) 0
+    && posting pieces (sent 2 1 6 40499) 14
+    -- par of the whole balance that takes nothing from it: increases, the other way, the other tracking
+    && posting pieces (sent 1 2 0 40500) 14
+    && posting pieces (sent 1 2 1 40500) 14
+    && posting pieces (sent 1 2 4 40500) 14
+    && posting pieces (sent 2 1 5 40500) 14
+    && posting pieces (sent 1 2 3 40500) 14
+    && posting pieces (sent 2 1 9 40500) 14
+    && posting pieces (sent 2 1 3 2500) 14
+    && posting pieces (sent 2 1 9 2500) 0
+    && posting pieces (sent 2 1 8 2000) 0
+    && posting pieces (sent 2 1 12 3000) 7
+    && posting pieces (sent 2 1 12 1500) 14
+    && posting pieces (sent 1 2 9 1500) 14
+    -- ones are pieces of every par
+    && posting ones (sent 1 2 0 200500) 0
+    && posting ones (sent 2 1 3 1) 0
+    && posting ones (sent 2 1 3 40501) 7
+    && posting (replicate 16 1000000) (sent 1 2 0 1000000) 0
+    && posting (replicate 16 1000000) (sent 1 2 0 999999) 14
+
 -- ---- soundness
 
 number : List ℕ → List ℕ → ℕ → List ℕ → ℕ
@@ -117,7 +168,7 @@ judged =
 
 -- limits: good, then with 12 after 1, 2 and 3 and before 4
 lentNumber : List ℕ → List ℕ → List ℕ → ℕ → List ℕ → ℕ
-lentNumber calendar tables limits day balances = firstOf (lentBookCauses calendar tables limits day balances)
+lentNumber calendar tables limits day balances = firstOf (lentBookCauses calendar tables limits pieces day balances)
 
 published : List ℕ
 published = 7 ∷ 6 ∷ 3 ∷ 2 ∷ 1 ∷ []
@@ -136,6 +187,26 @@ lent =
     && eqb (lentNumber weekdays caseTables published 20230401 zeros) 4
     && eqb (lentNumber weekdays caseTables published 20230404 (set zeros 8191 1)) 4
 
-rows-hold : all holds rows && judged && lent ≡ true
-unfolding openedBook held sent rows flag holds number zeros judged lentNumber published lent
+-- pieces: with 13 after 1, 2, 3 and 12 and before 4
+pieceNumber : List ℕ → List ℕ → List ℕ → List ℕ → ℕ → List ℕ → ℕ
+pieceNumber calendar tables limits list day balances = firstOf (lentBookCauses calendar tables limits list day balances)
+
+lentPieces : Bool
+lentPieces =
+    eqb (pieceNumber weekdays caseTables published ones 20230404 odd) 0
+    && eqb (pieceNumber weekdays caseTables published (replicate 16 1000000) 20230404 odd) 0
+    && eqb (pieceNumber (replicate 479 0) caseTables [] [] 20230401 zeros) 1
+    && eqb (pieceNumber (set weekdays 1 4294967295) caseTables published [] 20230401 zeros) 2
+    && eqb (pieceNumber weekdays (set caseTables 0 9) published [] 20230401 zeros) 3
+    && eqb (pieceNumber weekdays caseTables [] [] 20230401 zeros) 12
+    && eqb (pieceNumber weekdays caseTables published [] 20230404 zeros) 13
+    && eqb (pieceNumber weekdays caseTables published (replicate 15 1) 20230401 zeros) 13
+    && eqb (pieceNumber weekdays caseTables published (replicate 17 1) 20230404 zeros) 13
+    && eqb (pieceNumber weekdays caseTables published (set ones 0 0) 20230404 (set zeros 0 1)) 13
+    && eqb (pieceNumber weekdays caseTables published (set ones 15 0) 20230404 zeros) 13
+    && eqb (pieceNumber weekdays caseTables published (set ones 15 1000001) 20230404 zeros) 13
+    && eqb (pieceNumber weekdays caseTables published pieces 20230401 zeros) 4
+
+rows-hold : all holds rows && posted && judged && lent && lentPieces ≡ true
+unfolding openedBook held sent rows flag holds pieces odd posting posted number zeros judged lentNumber published lent pieceNumber lentPieces
 rows-hold = refl

@@ -1,11 +1,12 @@
--- Document 01, section Loans, and document 02, card 3: what a transfer does to the par on loan and on repo.
-use mathlib.Core.Bool.{Bool, false, cond, _||_}
+-- Document 01, section Loans, and document 02, card 3: what a transfer does to the par on loan and on repo; card 6: which par may be sent.
+use mathlib.Core.Bool.{Bool, false, cond, not, _&&_, _||_}
 use mathlib.Core.List.{List, [], _∷_}
-use Prim.Native.Nat.{ℕ, _+_, _-_}
+use Prim.Native.Nat.{ℕ, _+_, _-_, _%_}
 use lib.Dec.{eqb, ltb}
 use lib.ListN.{set}
 use Rattle.lists.specs.First.{Cause, cause}
 use Rattle.records.specs.declared.Transfer.{Transfer}
+use Rattle.securities.specs.Lent.{pieceOf}
 use Rattle.book.specs.Book.{largestBalance, Position, word, balanceAt}
 
 -- Codes 7 to 12 do for repo what 1 to 6 do for lending: the tracking of a code, and its place in the tracking.
@@ -62,3 +63,18 @@ loanCauses balances t =
     cause 7 (aboveBalance balances (changeOf t) (t .par))
     ∷ cause 8 (pastLimit balances (changeOf t) (t .par))
     ∷ []
+
+-- A decrease that takes exactly the whole balance, that of its own tracking, may have any par.
+unfoldable pub clearsBalance : List ℕ → Change → ℕ → Bool
+clearsBalance balances unchanged par = false
+clearsBalance balances (increase p) par = false
+clearsBalance balances (decrease p) par = eqb (balanceAt balances p) par
+
+-- Par is no multiple of the security's piece, and does not clear the whole balance: number 14.
+unfoldable pub offPiece : List ℕ → List ℕ → Transfer → Bool
+offPiece pieces balances t =
+    not (eqb (t .par % pieceOf pieces (t .security)) 0) && not (clearsBalance balances (changeOf t) (t .par))
+
+-- Numbers 14, 7 and 8 of a transfer.
+unfoldable pub postingCauses : List ℕ → List ℕ → Transfer → List Cause
+postingCauses pieces balances t = cause 14 (offPiece pieces balances t) ∷ loanCauses balances t

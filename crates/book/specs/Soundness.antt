@@ -1,5 +1,5 @@
--- Document 01, What can be refused, numbers 1 to 4: calendar, tables, day and balances that a call can work on; document 02, card 5,
--- number 12: date limits that it can.
+-- Document 01, What can be refused, numbers 1 to 4: calendar, tables, day and balances that a call can work on; document 02, numbers 12 and
+-- 13: date limits (card 5) and minimum pieces (card 6) that it can.
 use mathlib.Core.Bool.{Bool, true, not, _&&_, _||_}
 use mathlib.Core.List.{List, [], _∷_, _++_}
 use Prim.Native.Nat.{ℕ, suc}
@@ -7,7 +7,7 @@ use lib.Dec.{eqb, leb}
 use lib.ListN.{length}
 use Rattle.lists.specs.First.{Cause, cause}
 use Rattle.days.specs.Days.{calendarWords, badCalendar, isOpen, openAfter}
-use Rattle.securities.specs.Lent.{goodLimits}
+use Rattle.securities.specs.Lent.{goodLimits, goodPieces}
 use Rattle.securities.specs.Securities.{tableWords, goodTables}
 use Rattle.book.specs.Book.{balanceWords, largestBalance, Position, position}
 
@@ -49,14 +49,17 @@ stateCauses calendar day balances = cause 4 (badDay calendar day || badBalances 
 unfoldable pub bookCauses : List ℕ → List ℕ → ℕ → List ℕ → List Cause
 bookCauses calendar tables day balances = tableCauses calendar tables balances ++ stateCauses calendar day balances
 
--- Date limits of another length or that break a rule: number 12.
-unfoldable pub lentCauses : List ℕ → List Cause
-lentCauses limits = cause 12 (not (goodLimits limits)) ∷ []
+-- Date limits of another length or that break a rule: number 12. Pieces of another length or with a number outside the range: number 13.
+unfoldable pub lentCauses : List ℕ → List ℕ → List Cause
+lentCauses limits pieces =
+    cause 12 (not (goodLimits limits))
+    ∷ cause 13 (not (goodPieces pieces))
+    ∷ []
 
--- Numbers 1 to 3, 12 and 4 of a transfer that is lent limits: 12 comes after 3.
-unfoldable pub lentBookCauses : List ℕ → List ℕ → List ℕ → ℕ → List ℕ → List Cause
-lentBookCauses calendar tables limits day balances =
-    tableCauses calendar tables balances ++ (lentCauses limits ++ stateCauses calendar day balances)
+-- Numbers 1 to 3, 12, 13 and 4 of a transfer, which is lent limits and pieces: 12 comes after 3, and 13 after 12.
+unfoldable pub lentBookCauses : List ℕ → List ℕ → List ℕ → List ℕ → ℕ → List ℕ → List Cause
+lentBookCauses calendar tables limits pieces day balances =
+    tableCauses calendar tables balances ++ (lentCauses limits pieces ++ stateCauses calendar day balances)
 
 -- Opening can meet only 1 to 4, and for 4 only the day's causes.
 unfoldable pub openingCauses : List ℕ → List ℕ → List ℕ → ℕ → List Cause

@@ -14,7 +14,7 @@ use Rattle.records.specs.MessageRecords.{transferKind, closeKind, transferOf, r
 use Rattle.tags.specs.ContractDateTag.{editCauses}
 use Rattle.book.specs.declared.Book.{Book}
 use Rattle.book.specs.Book.{InRange}
-use Rattle.book.specs.Loans.{stepOf, Change, unchanged, increase, decrease, increasing, decreasing, bySender, byReceiver, changeOf, aboveBalance, loanCauses}
+use Rattle.book.specs.Loans.{stepOf, Change, unchanged, increase, decrease, increasing, decreasing, bySender, byReceiver, changeOf, aboveBalance, loanCauses, postingCauses}
 use Rattle.book.specs.Soundness.{tableCauses, stateCauses, bookCauses, lentCauses, lentBookCauses, openingCauses}
 use Rattle.book.proofs.Posted.{tracking-range}
 use Rattle.book.proofs.Judged.{SoundBook, sound-book, lent-none, SoundOpening, sound-opening, numbered-opening}
@@ -25,7 +25,7 @@ use Rattle.history.specs.Causes.{recordCauses, outOfRange, fieldCauses, 
 
 pub numbered-causes : (calendar tables : List ℕ) (book : Book) (balances : List ℕ) (call : Call)
     → numbered (causes calendar tables book balances call) ≡ true
-unfolding numbered causes callCauses transferCauses soundCauses bookCauses lentBookCauses tableCauses lentCauses stateCauses recordCauses fieldCauses editCauses countCauses loanCauses lastDayCauses roomCauses
+unfolding numbered causes callCauses transferCauses soundCauses bookCauses lentBookCauses tableCauses lentCauses stateCauses recordCauses fieldCauses editCauses countCauses postingCauses loanCauses lastDayCauses roomCauses
 numbered-causes calendar tables book balances (transfer a) = refl
 numbered-causes calendar tables book balances (close a) = refl
 
@@ -44,7 +44,7 @@ none-of calendar tables book balances call e = accepted-iff calendar tables book
 pub sound-book-call : (calendar tables : List ℕ) (day : ℕ) (balances : List ℕ) (call : Call)
     → NoneApplies (soundCauses calendar tables day balances call) → NoneApplies (bookCauses calendar tables day balances)
 unfolding soundCauses
-sound-book-call calendar tables day balances (transfer a) n = lent-none calendar tables (a .limits) day balances n
+sound-book-call calendar tables day balances (transfer a) n = lent-none calendar tables (a .limits) (a .pieces) day balances n
 sound-book-call calendar tables day balances (close a) n = n
 
 -- ---- the fields of an accepted transfer
@@ -105,7 +105,7 @@ pub record Taken (calendar tables : List ℕ) (book : Book) (balances : List ℕ
 
 pub taken : (calendar tables : List ℕ) (book : Book) (balances : List ℕ) (a : TransferArguments)
     → numberFor calendar tables book balances (transfer a) ≡ 0 → Taken calendar tables book balances a
-unfolding causes callCauses transferCauses soundCauses bookCauses lentBookCauses tableCauses lentCauses stateCauses recordCauses fieldCauses editCauses countCauses loanCauses roomCauses appliesAt
+unfolding causes callCauses transferCauses soundCauses bookCauses lentBookCauses tableCauses lentCauses stateCauses recordCauses fieldCauses editCauses countCauses postingCauses loanCauses roomCauses appliesAt
 taken calendar tables book balances a e =
     let cs = causes calendar tables book balances (transfer a) in
     let k = none-of calendar tables book balances (transfer a) e in

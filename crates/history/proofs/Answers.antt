@@ -20,7 +20,7 @@ module _ (calendar tables : List ℕ) (book : Book) (balances : List ℕ) (call 
 
   numbered-sound : (c : Call) → numbered (soundCauses calendar tables (book .day) balances c) ≡ true
   unfolding soundCauses
-  numbered-sound (transfer a) = numbered-lent calendar tables (a .limits) (book .day) balances
+  numbered-sound (transfer a) = numbered-lent calendar tables (a .limits) (a .pieces) (book .day) balances
   numbered-sound (close a) = numbered-book calendar tables (book .day) balances
 
   -- a number of the causes before 5

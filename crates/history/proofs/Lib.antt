@@ -2,6 +2,7 @@ pub mod Opened
 pub mod Accepted
 pub mod Balances
 pub mod Apart
+pub mod LentOnes
 pub mod Simulation
 pub mod Payments
 pub mod Once

@@ -13,7 +13,7 @@ use Rattle.history.proofs.Rows.{tagLine, blank, sent, closing, zeros, h
 
 -- a transfer, lent limits
 unfoldable pub lent : List ℕ → Call → Call
-lent limits (transfer a) = transfer (record { message = a .message; buffer = a .buffer; limits = limits })
+lent limits (transfer a) = transfer (record { message = a .message; buffer = a .buffer; limits = limits; pieces = a .pieces })
 lent limits (close a) = close a
 
 -- 400,000 from account 1 to account 2, with room

@@ -10,6 +10,7 @@ use lib.ListN.{length, replicate, set, take}
 use Rattle.lists.specs.All.{all}
 use Rattle.days.specs.Weekdays.{weekdays}
 use Rattle.securities.specs.Cases.{caseTables}
+use Rattle.securities.specs.Lent.{ones}
 use Rattle.claims.specs.Amounts.{ofInterest, Parties}
 use Rattle.claims.proofs.InterimRows.{threeRows}
 use Rattle.claims.proofs.DelayRows.{delays}
@@ -54,7 +55,7 @@ badTag = line (tag 20230230)
 -- a transfer by its kind, sender, receiver, security, class, code, par, first line and the size of its claim buffer
 unfoldable pub sent : ℕ → ℕ → ℕ → ℕ → ℕ → ℕ → ℕ → List ℕ → ℕ → Call
 sent kind sender receiver security class code par first room =
-    publishedTransfer (record {
+    publishedTransfer ones (record {
       message = (139 ∷ 0 ∷ kind ∷ 0 ∷ sender ∷ receiver ∷ security ∷ class ∷ code ∷ (par % 256) ∷ (par / 256 % 256) ∷ (par / 65536 % 256) ∷ (par / 16777216) ∷ [])
           ++ (first ++ blank);
       buffer = replicate room 0;
@@ -215,7 +216,7 @@ apartTables = (3 ∷ 1 ∷ 20230403 ∷ 20230330 ∷ 20230417 ∷ 5000000 ∷ []
 
 -- a call that finds sevens in its claim buffer
 onSevens : Call → Call
-onSevens (transfer a) = transfer (record { message = a .message; buffer = replicate (length (a .buffer)) 7; limits = a .limits })
+onSevens (transfer a) = transfer (record { message = a .message; buffer = replicate (length (a .buffer)) 7; limits = a .limits; pieces = a .pieces })
 onSevens (close a) = close (record { message = a .message; buffer = replicate (length (a .buffer)) 7 })
 
 -- a loan, a failed transfer, one refused for its par, a close without room, the close that crosses the Record Date, a second failed

@@ -18,7 +18,7 @@ use Rattle.book.specs.Loans.{loanCauses}
 use Rattle.book.specs.Book.{Position, position, largestBalance}
 use Rattle.book.specs.Soundness.{wrongLength, badDay, goodBalance, goodBalancesFrom, badBalances, tableCauses, stateCauses, bookCauses, openingCauses}
 use Rattle.book.proofs.Judged.{kept, numbered-book, numbered-opening}
-use Rattle.book.proofs.Posted.{posted-sound, posted-length}
+use Rattle.book.proofs.Posted.{posting-clear, posted-sound, posted-length}
 use Rattle.history.specs.Calls.{TransferArguments, Call, transfer, close, claimsOf}
 use Rattle.history.specs.Causes.{recordCauses, fieldCauses, countCauses, roomCauses, transferCauses, callCauses, soundCauses, causes, numberFor, openingNumber}
 use Rattle.history.specs.Results.{nextBook, nextBalances, resultFor, result, openedFor, opened}
@@ -58,8 +58,8 @@ module _ (calendar tables : List ℕ) (book : Book) (balances : List ℕ) (z : f
       let tag = messageTag (a .message) in
       let all = accepted-iff calendar tables book balances (transfer a) .0 e in
       let own = none-right (recordCauses transferKind (a .message)) _ (none-right (soundCauses calendar tables (book .day) balances (transfer a)) _ all) in
-      let fields = none-left (transferCauses tables book balances t tag) (roomCauses (claimsOf calendar tables book balances (transfer a)) (a .buffer)) own in
-      first-none _
+      let fields = none-left (transferCauses tables (a .pieces) book balances t tag) (roomCauses (claimsOf calendar tables book balances (transfer a)) (a .buffer)) own in
+      posting-clear (a .pieces) balances t
       (none-right (countCauses (book .count)) _
       (none-right (editCauses tag (t .class) (book .day)) _ (none-right (fieldCauses tables t) _ fields)))
 

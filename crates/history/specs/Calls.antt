@@ -1,5 +1,5 @@
 -- The calls of a list, their arguments, and the claims that they give. All calls of a list get the same calendar and tables; each transfer
--- has date limits of its own (document 02, card 5).
+-- has date limits (document 02, card 5) and minimum pieces (card 6) of its own.
 use mathlib.Core.List.{List}
 use Prim.Native.Nat.{ℕ, _+_}
 use Rattle.records.specs.declared.Claim.{Claim}
@@ -13,19 +13,20 @@ pub record Arguments : Type 0 where
   pub message : List ℕ
   pub buffer : List ℕ
 
--- Those of a transfer: also the date limits that it is lent.
+-- Those of a transfer: also the date limits and the pieces that it is lent.
 pub record TransferArguments : Type 0 where
   pub message : List ℕ
   pub buffer : List ℕ
   pub limits : List ℕ
+  pub pieces : List ℕ
 
 pub data Call : Type 0 where
   transfer : TransferArguments → Call
   close : Arguments → Call
 
 -- A transfer in the form without limits keeps the published numbers.
-abbrev pub publishedTransfer : Arguments → Call
-publishedTransfer a = transfer (record { message = a .message; buffer = a .buffer; limits = maximumNumbers })
+abbrev pub publishedTransfer : List ℕ → Arguments → Call
+publishedTransfer pieces a = transfer (record { message = a .message; buffer = a .buffer; limits = maximumNumbers; pieces = pieces })
 
 unfoldable pub bufferOf : Call → List ℕ
 bufferOf (transfer a) = a .buffer

@@ -1,4 +1,4 @@
--- Document 01, section What can be refused, and document 02, card 5: the causes of each call in the papers' order, in groups, and the
+-- Document 01, section What can be refused, and document 02, cards 5 and 6: the causes of each call in the papers' order, in groups, and the
 -- number of the first.
 use mathlib.Core.Bool.{Bool, not, _||_}
 use mathlib.Core.List.{List, [], _∷_, _++_}
@@ -16,7 +16,7 @@ use Rattle.tags.specs.ContractDateTag.{editCauses}
 use Rattle.claims.specs.Fails.{messageTag}
 use Rattle.claims.specs.Written.{claimSize}
 use Rattle.book.specs.declared.Book.{Book}
-use Rattle.book.specs.Loans.{loanCauses}
+use Rattle.book.specs.Loans.{postingCauses}
 use Rattle.book.specs.Soundness.{bookCauses, lentBookCauses, openingCauses}
 use Rattle.history.specs.Calls.{Call, transfer, close, claimsOf}
 
@@ -55,27 +55,27 @@ roomCauses claims buffer = cause 10 (ltb (length buffer) (claimSize * length cla
 -- ---- the causes of a call
 
 -- Those of a transfer that reads, by its fields and its tag, before room is asked for.
-unfoldable pub transferCauses : List ℕ → Book → List ℕ → Transfer → Tag → List Cause
-transferCauses tables book balances t tag =
+unfoldable pub transferCauses : List ℕ → List ℕ → Book → List ℕ → Transfer → Tag → List Cause
+transferCauses tables pieces book balances t tag =
     fieldCauses tables t
     ++ (editCauses tag (t .class) (book .day)
     ++ (countCauses (book .count)
-    ++ loanCauses balances t))
+    ++ postingCauses pieces balances t))
 
 -- Those behind the causes of what it is lent.
 unfoldable pub callCauses : List ℕ → List ℕ → Book → List ℕ → Call → List Cause
 callCauses calendar tables book balances (transfer a) =
     recordCauses transferKind (a .message)
-    ++ (transferCauses tables book balances (transferOf (a .message)) (messageTag (a .message))
+    ++ (transferCauses tables (a .pieces) book balances (transferOf (a .message)) (messageTag (a .message))
     ++ roomCauses (claimsOf calendar tables book balances (transfer a)) (a .buffer))
 callCauses calendar tables book balances (close a) =
     recordCauses closeKind (a .message)
     ++ (lastDayCauses calendar (book .day)
     ++ roomCauses (claimsOf calendar tables book balances (close a)) (a .buffer))
 
--- Numbers 1 to 4, for a transfer with 12 after 3: what the call is lent is sound where none applies.
+-- Numbers 1 to 4, for a transfer with 12 and 13 after 3: what the call is lent is sound where none applies.
 unfoldable pub soundCauses : List ℕ → List ℕ → ℕ → List ℕ → Call → List Cause
-soundCauses calendar tables day balances (transfer a) = lentBookCauses calendar tables (a .limits) day balances
+soundCauses calendar tables day balances (transfer a) = lentBookCauses calendar tables (a .limits) (a .pieces) day balances
 soundCauses calendar tables day balances (close a) = bookCauses calendar tables day balances
 
 unfoldable pub causes : List ℕ → List ℕ → Book → List ℕ → Call → List Cause

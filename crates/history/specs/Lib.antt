@@ -7,3 +7,4 @@ pub mod Statement
 pub mod Continuation
 pub mod ByValue
 pub mod Apart
+pub mod LentOnes

@@ -1,6 +1,6 @@
 // Judges calendar, tables, a book's day and its balances (document 01, section The book), with the numbers 1 to 4 of what can be refused,
-// and date limits (document 02, card 5), with number 12. Calendar, tables, balances and limits are taken in any length where a function
-// gives the number for it.
+// and date limits and minimum pieces (document 02, cards 5 and 6), with numbers 12 and 13. Calendar, tables, balances, limits and pieces are
+// taken in any length where a function gives the number for it.
 ghost use mathlib.Core.Path.{_≡_};
 ghost use mathlib.Core.Bool.{true};
 ghost use lib.ListN.{length};
@@ -151,15 +151,17 @@ pub fn book_number(calendar: &[u32], tables: &[u32], day: u32, balances: &[u64])
     state_number(calendar, day, balances)
 }
 
-// The first of the numbers 1, 2, 3, 12 and 4 that a transfer meets, 0 where it meets none.
+// The first of the numbers 1, 2, 3, 12, 13 and 4 that a transfer meets, 0 where it meets none.
 pub fn transfer_number(
     calendar: &[u32],
     tables: &[u32],
     limits: &[u32],
+    pieces: &[u32],
     day: u32,
     balances: &[u64],
 ) -> u16
-    ensures { λ r. ⌜ r ≡ firstOf (lentBookCauses (now (calendar .entry)) (now (tables .entry)) (now (limits .entry)) day (now (balances .entry))) ⌝ }
+    ensures { λ r. ⌜ r ≡ firstOf (lentBookCauses (now (calendar .entry)) (now (tables .entry)) (now (limits .entry)) (now (pieces .entry))
+        day (now (balances .entry))) ⌝ }
 {
     let number = table_number(calendar, tables, balances);
     if number != 0 {
@@ -167,6 +169,9 @@ pub fn transfer_number(
     }
     if !securities::good_limits(limits) {
         return 12;
+    }
+    if !securities::good_pieces(pieces) {
+        return 13;
     }
     state_number(calendar, day, balances)
 }

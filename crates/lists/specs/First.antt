@@ -36,6 +36,11 @@ unfoldable pub appliesAt : ℕ → List Cause → Bool
 appliesAt n [] = false
 appliesAt n (c ∷ cs) = cond (eqb (c .number) n) (c .applies) (appliesAt n cs)
 
+-- the table without the cause with a number
+unfoldable pub without : ℕ → List Cause → List Cause
+without n [] = []
+without n (c ∷ cs) = cond (eqb (c .number) n) cs (c ∷ without n cs)
+
 -- ---- the number is 0 exactly when no cause applies
 
 pub none-applies : (cs : List Cause) → numbered cs ≡ true → firstOf cs ≡ 0 → NoneApplies cs
@@ -70,6 +75,18 @@ cleared-by n (c ∷ cs) k = go (eqb (c .number) n) (cleared-by n cs (k .1))
 -- the cause with the number n does not apply where the table's number is 0
 pub cleared : (n : ℕ) (cs : List Cause) → numbered cs ≡ true → firstOf cs ≡ 0 → appliesAt n cs ≡ false
 cleared n cs t e = cleared-by n cs (none-applies cs t e)
+
+-- ---- a table's number is that of the table without a cause that does not apply
+
+pub first-without : (n : ℕ) (cs : List Cause) → appliesAt n cs ≡ false → firstOf (without n cs) ≡ firstOf cs
+unfolding firstOf appliesAt without
+first-without n [] k = refl
+first-without n (c ∷ cs) k = go (eqb (c .number) n) k (first-without n cs)
+  where
+    go : (b : Bool) → cond b (c .applies) (appliesAt n cs) ≡ false → (appliesAt n cs ≡ false → firstOf (without n cs) ≡ firstOf cs)
+        → firstOf (cond b cs (c ∷ without n cs)) ≡ cond (c .applies) (c .number) (firstOf cs)
+    go true k ih = rw k
+    go false k ih = rw (ih k)
 
 -- ---- from the answer's side: the first cause applies, or the rest decides
 

@@ -1,11 +1,13 @@
-// The loans and repos of transfers (document 01, section Loans; document 02, card 3): what is posted to the balances, with the numbers 7
-// and 8 of what can be refused.
+// The loans and repos of transfers (document 01, section Loans; document 02, card 3) and the pieces that par comes in (card 6): what is
+// posted to the balances, with the numbers 14, 7 and 8 of what can be refused.
 ghost use mathlib.Core.Path.{_≡_};
+ghost use mathlib.Core.Bool.{true};
 ghost use Prim.Native.Nat.{_<_};
 ghost use lib.ListN.{length};
 ghost use Rattle.lists.specs.First.{firstOf};
+ghost use Rattle.securities.specs.Lent.{goodPieces};
 ghost use Rattle.book.specs.Book.{word};
-ghost use Rattle.book.specs.Loans.{trackingOf, stepOf, increasing, decreasing, changeOf, changed, loanCauses};
+ghost use Rattle.book.specs.Loans.{trackingOf, stepOf, increasing, decreasing, changeOf, changed, loanCauses, offPiece, postingCauses};
 use records::Transfer;
 
 // The tracking of a code: 0 lending, 1 repo.
@@ -63,7 +65,7 @@ fn word_of(code: u8, security: u8, lender: u8, borrower: u8) -> usize
 }
 
 // Number 7 for a decrease above the balance, 8 for an increase past the largest balance, 0 for any other transfer.
-pub fn loan_number(balances: &[u64], t: Transfer) -> u16
+fn loan_number(balances: &[u64], t: Transfer) -> u16
     requires { ⌜ (length (now balances) ≡ 8192) × (t .sender < 16) × (t .receiver < 16) × (t .security < 16) ⌝ }
     ensures { λ r. ⌜ r ≡ firstOf (loanCauses (now (balances .entry)) t) ⌝ }
 {
@@ -83,6 +85,32 @@ pub fn loan_number(balances: &[u64], t: Transfer) -> u16
         return 0;
     }
     0
+}
+
+// Whether par is no multiple of the security's piece and does not clear the whole balance that the code takes from.
+fn off_piece(pieces: &[u32], balances: &[u64], t: Transfer) -> bool
+    requires { ⌜ (goodPieces (now pieces) ≡ true) × (length (now balances) ≡ 8192) × (t .sender < 16) × (t .receiver < 16) × (t .security < 16) ⌝ }
+    ensures { λ r. ⌜ r ≡ offPiece (now (pieces .entry)) (now (balances .entry)) t ⌝ }
+{
+    if t.par % pieces[t.security as usize] == 0 {
+        return false;
+    }
+    if decreases(t.code) {
+        let borrowed = balances[word_of(t.code, t.security, t.receiver, t.sender)];
+        return borrowed != t.par as u64;
+    }
+    true
+}
+
+// The first of the numbers 14, 7 and 8 that a transfer meets, 0 where it meets none.
+pub fn posting_number(pieces: &[u32], balances: &[u64], t: Transfer) -> u16
+    requires { ⌜ (goodPieces (now pieces) ≡ true) × (length (now balances) ≡ 8192) × (t .sender < 16) × (t .receiver < 16) × (t .security < 16) ⌝ }
+    ensures { λ r. ⌜ r ≡ firstOf (postingCauses (now (pieces .entry)) (now (balances .entry)) t) ⌝ }
+{
+    if off_piece(pieces, balances, t) {
+        return 14;
+    }
+    loan_number(balances, t)
 }
 
 // Adds an accepted transfer's par to its balance or takes it away.

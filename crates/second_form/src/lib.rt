@@ -8,18 +8,21 @@ use book::Done;
 pub fn transfer_lent(
     calendar: &[u32],
     tables: &[u32],
+    pieces: &[u32],
     book: Book,
     balances: &mut [u64],
     message: &[u8],
     claims: &mut [u8],
 ) -> Done
     ensures { λ r. ⌜ Gives (now (calendar .entry)) (now (tables .entry)) book (now (balances .entry))
-        (publishedTransfer (record { message = now (message .entry); buffer = now (claims .entry) })) r (now (claims .exit)) (now (balances .exit)) ⌝ }
+        (publishedTransfer (now (pieces .entry)) (record { message = now (message .entry); buffer = now (claims .entry) }))
+        r (now (claims .exit)) (now (balances .exit)) ⌝ }
 {
     let mut own = book;
     let reply = tracker::own_book::claim_tracker_transfer_in(
         calendar,
         tables,
+        pieces,
         &mut own,
         balances,
         message,

@@ -1,10 +1,11 @@
--- Date limits worked out (document 02, card 5), as rows that compute: each rule kept and broken by one number.
+-- Date limits (document 02, card 5) and minimum pieces (card 6) worked out, as rows that compute: each rule kept and broken by one number.
 use mathlib.Core.Path.{_≡_, refl}
 use mathlib.Core.Bool.{Bool, true, not, _&&_}
 use mathlib.Core.List.{List, [], _∷_}
 use Prim.Native.Nat.{ℕ}
+use lib.ListN.{replicate, set}
 use Rattle.lists.specs.All.{all}
-use Rattle.securities.specs.Lent.{goodLimits}
+use Rattle.securities.specs.Lent.{goodLimits, goodPieces, ones}
 use Rattle.securities.proofs.Opened.{openedSecurities}
 
 -- five limits, in their order
@@ -45,6 +46,25 @@ bad =
     ∷ five 7 2 3 3 3
     ∷ []
 
-lent-rows-hold : all goodLimits good && all (λ limits. not (goodLimits limits)) bad ≡ true
-unfolding openedSecurities good bad
+-- sixteen ones; the largest; one number other than the rest, in front and at the end
+goodLists : List (List ℕ)
+goodLists = ones ∷ replicate 16 1000000 ∷ set ones 0 1000000 ∷ set ones 15 1000 ∷ set (replicate 16 1000) 15 1 ∷ []
+
+-- other lengths; 0 and 1,000,001 in front, within and at the end
+badLists : List (List ℕ)
+badLists =
+    []
+    ∷ replicate 15 1
+    ∷ replicate 17 1
+    ∷ set ones 0 0
+    ∷ set ones 7 0
+    ∷ set ones 15 0
+    ∷ set ones 0 1000001
+    ∷ set ones 7 1000001
+    ∷ set ones 15 4294967295
+    ∷ []
+
+lent-rows-hold : all goodLimits good && all (λ limits. not (goodLimits limits)) bad && all goodPieces goodLists
+    && all (λ pieces. not (goodPieces pieces)) badLists ≡ true
+unfolding openedSecurities good bad goodLists badLists
 lent-rows-hold = refl

@@ -1,18 +1,19 @@
 -- What sound tables say of the filled rows of a security: each row keeps its rules, and Record and Beneficiary Dates rise. How many good
--- limits there are.
+-- limits and pieces there are, and that no piece is 0.
 use mathlib.Core.Path.{_≡_, refl}
 use mathlib.Core.Bool.{Bool, true, false, cond, not, _&&_}
 use mathlib.Core.List.{List, [], _∷_}
 use Prim.Native.Nat.{ℕ, zero, suc, _+_, _≤_, _<_}
+use native.Mathlib.Nat.{not-suc-le-zero, le-of-suc-le-suc}
 use native.Mathlib.Omega.{arith}
 use lib.Dec.{eqb, ltb, leb}
 use lib.ListN.{length, getD, drop}
 use borrow.Author.Tests.{eqb-true, ltb-true, lt-ltb, leb-true}
 use Rattle.lists.specs.Tests.{and-left, and-right, and-both, below-at}
-use Rattle.lists.specs.All.{all, all-weaken}
+use Rattle.lists.specs.All.{all, all-at, all-weaken}
 use Rattle.lists.specs.Select.{select, rising, all-select, all-drop}
 use Rattle.days.specs.Days.{isDate, lastOpen}
-use Rattle.securities.specs.Lent.{goodLimits}
+use Rattle.securities.specs.Lent.{fromOneTo, goodLimits, goodPieces, pieceOf}
 use Rattle.securities.specs.Securities.{securityOf, typeOf, frequencyOf, Row, rowOf, rowsFrom, rowsOf, isEmpty, isFilled, filledRows, goodRow, goodRows, goodSecurity, goodTables}
 
 -- ---- a row's rules, each by itself
@@ -161,3 +162,27 @@ sound-rows calendar tables s t h =
 pub five-limits : (limits : List ℕ) → goodLimits limits ≡ true → length limits ≡ 5
 unfolding goodLimits
 five-limits limits e = eqb-true (length limits) 5 (search (and-left, and-right) depth 6)
+
+-- ---- good pieces
+
+-- they are sixteen
+pub sixteen-pieces : (pieces : List ℕ) → goodPieces pieces ≡ true → length pieces ≡ 16
+unfolding goodPieces
+sixteen-pieces pieces e = eqb-true (length pieces) 16 (and-left _ (all (fromOneTo 1000000) pieces) e)
+
+-- none is 0
+pub piece-some : (pieces : List ℕ) (s : ℕ) → goodPieces pieces ≡ true → s < 16 → 1 ≤ pieceOf pieces s
+unfolding goodPieces fromOneTo pieceOf
+piece-some pieces s e h =
+    let n = sixteen-pieces pieces e in
+    leb-true 1 _ (and-left _ _ (all-at (fromOneTo 1000000) pieces 1 (and-right (eqb (length pieces) 16) _ e) s (omega (arith, n))))
+
+-- each is read as it is
+read-any : (xs : List ℕ) (k d e : ℕ) → k < length xs → getD xs k d ≡ getD xs k e
+read-any [] k d e h = absurd (not-suc-le-zero h)
+read-any (x ∷ xs) zero d e h = refl
+read-any (x ∷ xs) (suc k) d e h = read-any xs k d e (le-of-suc-le-suc h)
+
+pub piece-read : (pieces : List ℕ) (s : ℕ) → goodPieces pieces ≡ true → s < 16 → getD pieces s 0 ≡ pieceOf pieces s
+unfolding pieceOf
+piece-read pieces s e h = let n = sixteen-pieces pieces e in read-any pieces s 0 1 (omega (arith, n))

@@ -1,12 +1,12 @@
-// Securities and their payments (document 01, section Securities and payments), and date limits (document 02, card 5). The tables are a
-// slice of 1,824 words; limits are taken in any length.
+// Securities and their payments (document 01, section Securities and payments), date limits (document 02, card 5) and minimum pieces (card
+// 6). The tables are a slice of 1,824 words; limits and pieces are taken in any length.
 ghost use mathlib.Core.Path.{_≡_};
 ghost use Prim.Native.Nat.{_<_};
 ghost use lib.Dec.{eqb};
 ghost use lib.ListN.{length};
 ghost use Rattle.lists.specs.All.{all};
 ghost use Rattle.days.specs.Days.{isDate, lastOpen};
-ghost use Rattle.securities.specs.Lent.{isLimit, goodLimits};
+ghost use Rattle.securities.specs.Lent.{fromOneTo, goodLimits, goodPieces};
 ghost use Rattle.securities.specs.Securities.{securityOf, typeOf, frequencyOf, rowOf, rowsFrom, goodRow, goodRows, goodSecurity, goodTables};
 use days::Checked;
 use days::Date;
@@ -32,6 +32,11 @@ const LARGEST_MASK: u32 = 65535;
 const LIMIT_WORDS: usize = 5;
 
 const LARGEST_LIMIT: u32 = 16;
+
+// The words of pieces, and the largest piece.
+const PIECE_WORDS: usize = 16;
+
+const LARGEST_PIECE: u32 = 1_000_000;
 
 // The number of the last open day, 0 where no day is open.
 fn last_day(calendar: &[u32]) -> u32
@@ -175,23 +180,23 @@ pub fn good_tables(calendar: &[u32], tables: &[u32]) -> bool
     true
 }
 
-// Whether a number is 1 to 16.
-fn is_limit(n: u32) -> bool
-    ensures { λ r. ⌜ r ≡ isLimit n ⌝ }
+// Whether a number is 1 to the largest.
+fn from_one_to(largest: u32, n: u32) -> bool
+    ensures { λ r. ⌜ r ≡ fromOneTo largest n ⌝ }
 {
     if n < 1 {
         return false;
     }
-    n <= LARGEST_LIMIT
+    n <= largest
 }
 
-// Whether every number is 1 to 16.
-fn all_limits(limits: &[u32]) -> bool
-    ensures { λ r. ⌜ r ≡ all isLimit (now (limits .entry)) ⌝ }
+// Whether every number is 1 to the largest.
+fn all_from_one_to(largest: u32, numbers: &[u32]) -> bool
+    ensures { λ r. ⌜ r ≡ all (fromOneTo largest) (now (numbers .entry)) ⌝ }
 {
     let mut i: usize = 0;
-    while i < limits.len() {
-        if !is_limit(limits[i]) {
+    while i < numbers.len() {
+        if !from_one_to(largest, numbers[i]) {
             return false;
         }
         i += 1;
@@ -206,7 +211,7 @@ pub fn good_limits(limits: &[u32]) -> bool
     if limits.len() != LIMIT_WORDS {
         return false;
     }
-    if !all_limits(limits) {
+    if !all_from_one_to(LARGEST_LIMIT, limits) {
         return false;
     }
     if limits[1] < limits[2] {
@@ -216,6 +221,16 @@ pub fn good_limits(limits: &[u32]) -> bool
         return false;
     }
     limits[4] <= limits[3]
+}
+
+// Whether pieces have their length and range: number 13 where they do not.
+pub fn good_pieces(pieces: &[u32]) -> bool
+    ensures { λ r. ⌜ r ≡ goodPieces (now (pieces .entry)) ⌝ }
+{
+    if pieces.len() != PIECE_WORDS {
+        return false;
+    }
+    all_from_one_to(LARGEST_PIECE, pieces)
 }
 
 // The type of a security.

@@ -7,6 +7,7 @@ use Prim.Native.Nat.{ℕ, zero, suc, _*_}
 use lib.Dec.{eqb, ltb}
 use lib.ListN.{length, take, drop, replicate}
 use Rattle.records.specs.MessageRecords.{transferKind, closeKind, answerKind, size, recordBytes, header, reads}
+use Rattle.securities.specs.Lent.{ones}
 use Rattle.claims.specs.Written.{claimSize}
 use Rattle.book.specs.declared.Book.{Book}
 use Rattle.history.specs.Calls.{Call, close, publishedTransfer}
@@ -32,10 +33,10 @@ next ended s =
 abbrev pub claimRoom : ℕ
 claimRoom = 65536
 
--- The call that a record asks for, with a claim buffer.
+-- The call that a record asks for, with a claim buffer. A transfer keeps the published limits and is lent ones as pieces.
 unfoldable pub callWith : List ℕ → List ℕ → Call
 callWith buffer message =
-    cond (reads closeKind message) (close (record { message = message; buffer = buffer })) (publishedTransfer (record { message = message; buffer = buffer }))
+    cond (reads closeKind message) (close (record { message = message; buffer = buffer })) (publishedTransfer ones (record { message = message; buffer = buffer }))
 
 -- What a claim buffer holds before a call does not show in what is written for it, so it is taken as zeros.
 unfoldable pub callFor : List ℕ → Call

@@ -26,15 +26,17 @@ pub extern "C" fn claim_tracker_open(
 pub extern "C" fn claim_tracker_transfer(
     calendar: &[u32],
     tables: &[u32],
+    pieces: &[u32],
     book: Book,
     balances: &mut [u64],
     message: &[u8],
     claims: &mut [u8],
 ) -> Done
     ensures { λ r. ⌜ Gives (now (calendar .entry)) (now (tables .entry)) book (now (balances .entry))
-        (publishedTransfer (record { message = now (message .entry); buffer = now (claims .entry) })) r (now (claims .exit)) (now (balances .exit)) ⌝ }
+        (publishedTransfer (now (pieces .entry)) (record { message = now (message .entry); buffer = now (claims .entry) }))
+        r (now (claims .exit)) (now (balances .exit)) ⌝ }
 {
-    transfers::transfer(calendar, tables, book, balances, message, claims)
+    transfers::transfer(calendar, tables, pieces, book, balances, message, claims)
 }
 
 // Works a transfer as claim_tracker_transfer does, with the date limits that it is lent: maximum numbers of Beneficiary Dates for MBS, then
@@ -44,16 +46,18 @@ pub extern "C" fn claim_tracker_transfer_with_limits(
     calendar: &[u32],
     tables: &[u32],
     limits: &[u32],
+    pieces: &[u32],
     book: Book,
     balances: &mut [u64],
     message: &[u8],
     claims: &mut [u8],
 ) -> Done
     ensures { λ r. ⌜ Gives (now (calendar .entry)) (now (tables .entry)) book (now (balances .entry))
-        (Call.transfer (record { message = now (message .entry); buffer = now (claims .entry); limits = now (limits .entry) }))
+        (Call.transfer (record { message = now (message .entry); buffer = now (claims .entry); limits = now (limits .entry);
+        pieces = now (pieces .entry) }))
         r (now (claims .exit)) (now (balances .exit)) ⌝ }
 {
-    transfers::transfer_with_limits(calendar, tables, limits, book, balances, message, claims)
+    transfers::transfer_with_limits(calendar, tables, limits, pieces, book, balances, message, claims)
 }
 
 // Works a close: the day moves to the next open day, and the lending and repo claims of the Record Dates crossed are written from the

@@ -16,18 +16,20 @@ pub struct Reply {
 pub extern "C" fn claim_tracker_transfer_in(
     calendar: &[u32],
     tables: &[u32],
+    pieces: &[u32],
     book: &mut Book,
     balances: &mut [u64],
     message: &[u8],
     claims: &mut [u8],
 ) -> Reply
     ensures { λ r. ⌜ Gives (now (calendar .entry)) (now (tables .entry)) (now (book .entry)) (now (balances .entry))
-        (publishedTransfer (record { message = now (message .entry); buffer = now (claims .entry) })) (together r (now (book .exit)))
-        (now (claims .exit)) (now (balances .exit)) ⌝ }
+        (publishedTransfer (now (pieces .entry)) (record { message = now (message .entry); buffer = now (claims .entry) }))
+        (together r (now (book .exit))) (now (claims .exit)) (now (balances .exit)) ⌝ }
 {
     let d = crate::calls::claim_tracker_transfer(
         calendar,
         tables,
+        pieces,
         *book,
         balances,
         message,

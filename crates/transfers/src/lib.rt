@@ -1,11 +1,13 @@
-// The transfer call (document 01, sections Fail claims and Loans; document 02, cards 1 and 5): a message is judged, its par is posted, and
-// its claims are written. The form with limits is lent maximum numbers of Beneficiary Dates, the form without them keeps the published ones.
+// The transfer call (document 01, sections Fail claims and Loans; document 02, cards 1, 5 and 6): a message is judged, its par is posted,
+// and its claims are written. Every form is lent the pieces of the securities. The form with limits is lent maximum numbers of Beneficiary
+// Dates too, the form without them keeps the published ones.
 ghost use mathlib.Core.Path.{_≡_};
 ghost use mathlib.Core.Bool.{true, _||_};
 ghost use lib.Dec.{leb};
 ghost use lib.ListN.{length};
 ghost use Rattle.lists.specs.First.{firstOf};
 ghost use Rattle.records.specs.MessageRecords.{transferKind, transferOf, reads};
+ghost use Rattle.securities.specs.Lent.{goodPieces, ones};
 ghost use Rattle.book.specs.Soundness.{bookCauses, lentBookCauses};
 ghost use Rattle.history.specs.Calls.{Call, publishedTransfer};
 ghost use Rattle.history.specs.Causes.{outOfRange, transferCauses};
@@ -58,10 +60,17 @@ fn out_of_range(tables: &[u32], t: Transfer) -> bool
     t.sender == t.receiver
 }
 
-// The first of the numbers 6, 132 to 139, 11, 7 and 8 that a transfer meets, 0 where it meets none.
-fn own_number(tables: &[u32], book: Book, balances: &[u64], t: Transfer, tag: Tag) -> u16
-    requires { ⌜ (length (now tables) ≡ 1824) × (length (now balances) ≡ 8192) ⌝ }
-    ensures { λ r. ⌜ r ≡ firstOf (transferCauses (now (tables .entry)) book (now (balances .entry)) t tag) ⌝ }
+// The first of the numbers 6, 132 to 139, 11, 14, 7 and 8 that a transfer meets, 0 where it meets none.
+fn own_number(
+    tables: &[u32],
+    pieces: &[u32],
+    book: Book,
+    balances: &[u64],
+    t: Transfer,
+    tag: Tag,
+) -> u16
+    requires { ⌜ (length (now tables) ≡ 1824) × (goodPieces (now pieces) ≡ true) × (length (now balances) ≡ 8192) ⌝ }
+    ensures { λ r. ⌜ r ≡ firstOf (transferCauses (now (tables .entry)) (now (pieces .entry)) book (now (balances .entry)) t tag) ⌝ }
 {
     if out_of_range(tables, t) {
         return 6;
@@ -73,28 +82,30 @@ fn own_number(tables: &[u32], book: Book, balances: &[u64], t: Transfer, tag: Ta
     if 4294967295 <= book.count {
         return 11;
     }
-    loans::loan_number(balances, t)
+    loans::posting_number(pieces, balances, t)
 }
 
-// The transfer of a sound book with good limits and a message that reads.
+// The transfer of a sound book with good limits, good pieces and a message that reads.
 fn transfer_read(
     calendar: &[u32],
     tables: &[u32],
     limits: &[u32],
+    pieces: &[u32],
     book: Book,
     balances: &mut [u64],
     message: &[u8],
     claims: &mut [u8],
     t: Transfer,
 ) -> Done
-    requires { ⌜ (firstOf (lentBookCauses (now calendar) (now tables) (now limits) (book .day) (now balances)) ≡ 0)
+    requires { ⌜ (firstOf (lentBookCauses (now calendar) (now tables) (now limits) (now pieces) (book .day) (now balances)) ≡ 0)
         × (reads transferKind (now message) ≡ true) × (t ≡ transferOf (now message)) ⌝ }
     ensures { λ r. ⌜ Gives (now (calendar .entry)) (now (tables .entry)) book (now (balances .entry))
-        (Call.transfer (record { message = now (message .entry); buffer = now (claims .entry); limits = now (limits .entry) }))
+        (Call.transfer (record { message = now (message .entry); buffer = now (claims .entry); limits = now (limits .entry);
+        pieces = now (pieces .entry) }))
         r (now (claims .exit)) (now (balances .exit)) ⌝ }
 {
     let tag = tags::tag_of(reading::first_line(message), reading::second_line(message));
-    let number = own_number(tables, book, balances, t, tag);
+    let number = own_number(tables, pieces, book, balances, t, tag);
     if number != 0 {
         return book::refused(number, book);
     }
@@ -114,49 +125,53 @@ fn transfer_read(
     }
 }
 
-// The transfer of a sound book with good limits: numbers 1 to 4 and 12 do not apply.
+// The transfer of a sound book with good limits and good pieces: numbers 1 to 4, 12 and 13 do not apply.
 fn sound_with_limits(
     calendar: &[u32],
     tables: &[u32],
     limits: &[u32],
+    pieces: &[u32],
     book: Book,
     balances: &mut [u64],
     message: &[u8],
     claims: &mut [u8],
 ) -> Done
-    requires { ⌜ firstOf (lentBookCauses (now calendar) (now tables) (now limits) (book .day) (now balances)) ≡ 0 ⌝ }
+    requires { ⌜ firstOf (lentBookCauses (now calendar) (now tables) (now limits) (now pieces) (book .day) (now balances)) ≡ 0 ⌝ }
     ensures { λ r. ⌜ Gives (now (calendar .entry)) (now (tables .entry)) book (now (balances .entry))
-        (Call.transfer (record { message = now (message .entry); buffer = now (claims .entry); limits = now (limits .entry) }))
+        (Call.transfer (record { message = now (message .entry); buffer = now (claims .entry); limits = now (limits .entry);
+        pieces = now (pieces .entry) }))
         r (now (claims .exit)) (now (balances .exit)) ⌝ }
 {
     let ReadTransfer::Is(t) = reading::read_transfer(message) else {
         return book::refused(5, book);
     };
-    transfer_read(calendar, tables, limits, book, balances, message, claims, t)
+    transfer_read(calendar, tables, limits, pieces, book, balances, message, claims, t)
 }
 
-// The transfer of any book with any limits: the first number that applies, or its par posted and its claims.
+// The transfer of any book with any limits and pieces: the first number that applies, or its par posted and its claims.
 pub fn transfer_with_limits(
     calendar: &[u32],
     tables: &[u32],
     limits: &[u32],
+    pieces: &[u32],
     book: Book,
     balances: &mut [u64],
     message: &[u8],
     claims: &mut [u8],
 ) -> Done
     ensures { λ r. ⌜ Gives (now (calendar .entry)) (now (tables .entry)) book (now (balances .entry))
-        (Call.transfer (record { message = now (message .entry); buffer = now (claims .entry); limits = now (limits .entry) }))
+        (Call.transfer (record { message = now (message .entry); buffer = now (claims .entry); limits = now (limits .entry);
+        pieces = now (pieces .entry) }))
         r (now (claims .exit)) (now (balances .exit)) ⌝ }
 {
-    let number = judging::transfer_number(calendar, tables, limits, book.day, balances);
+    let number = judging::transfer_number(calendar, tables, limits, pieces, book.day, balances);
     if number != 0 {
         return book::refused(number, book);
     }
-    sound_with_limits(calendar, tables, limits, book, balances, message, claims)
+    sound_with_limits(calendar, tables, limits, pieces, book, balances, message, claims)
 }
 
-// The transfer of a sound book with the published numbers: numbers 1 to 4 do not apply.
+// The transfer of a sound book with the published numbers and ones as pieces: numbers 1 to 4 do not apply.
 pub fn transfer_sound(
     calendar: &[u32],
     tables: &[u32],
@@ -167,24 +182,27 @@ pub fn transfer_sound(
 ) -> Done
     requires { ⌜ firstOf (bookCauses (now calendar) (now tables) (book .day) (now balances)) ≡ 0 ⌝ }
     ensures { λ r. ⌜ Gives (now (calendar .entry)) (now (tables .entry)) book (now (balances .entry))
-        (publishedTransfer (record { message = now (message .entry); buffer = now (claims .entry) })) r (now (claims .exit)) (now (balances .exit)) ⌝ }
+        (publishedTransfer ones (record { message = now (message .entry); buffer = now (claims .entry) })) r (now (claims .exit)) (now (balances .exit)) ⌝ }
 {
     let numbers = MAXIMUM_NUMBERS;
-    sound_with_limits(calendar, tables, &numbers, book, balances, message, claims)
+    let ones = [1u32; 16];
+    sound_with_limits(calendar, tables, &numbers, &ones, book, balances, message, claims)
 }
 
-// The transfer of any book with the published numbers.
+// The transfer of any book and pieces with the published numbers.
 pub fn transfer(
     calendar: &[u32],
     tables: &[u32],
+    pieces: &[u32],
     book: Book,
     balances: &mut [u64],
     message: &[u8],
     claims: &mut [u8],
 ) -> Done
     ensures { λ r. ⌜ Gives (now (calendar .entry)) (now (tables .entry)) book (now (balances .entry))
-        (publishedTransfer (record { message = now (message .entry); buffer = now (claims .entry) })) r (now (claims .exit)) (now (balances .exit)) ⌝ }
+        (publishedTransfer (now (pieces .entry)) (record { message = now (message .entry); buffer = now (claims .entry) }))
+        r (now (claims .exit)) (now (balances .exit)) ⌝ }
 {
     let numbers = MAXIMUM_NUMBERS;
-    transfer_with_limits(calendar, tables, &numbers, book, balances, message, claims)
+    transfer_with_limits(calendar, tables, &numbers, pieces, book, balances, message, claims)
 }

@@ -1,4 +1,4 @@
--- `transfer_number` gives the first number of the table, then 12 for the limits, then that of the day and the balances.
+-- `transfer_number` gives the first number of the table, then 12 for the limits and 13 for the pieces, then that of the day and the balances.
 use mathlib.Core.Path.{sym, ap, _∙_}
 use mathlib.Core.Bool.{not}
 use Rattle.lists.specs.First.{hit, skip, hit-group, skip-group}
@@ -24,16 +24,27 @@ returns-2 c =
     skip-group _ _ (numbered-tables _ _ _) (c .before .before .before .table-number .ensures) (c .before .before .if1 .left)
     (hit 12 _ (ap not (sym (c .before .good-limits .ensures)) ∙ c .if2 .taken))
 
-state-number-requires : tie.Need-state-number-requires
-state-number-requires c κs =
-    let z = sym (c .before .before .before .table-number .ensures) ∙ c .before .before .if1 .left in
-    (calendar-length _ _ _ z, balance-length _ _ _ z)
+good-pieces-requires : tie.Need-good-pieces-requires
+good-pieces-requires c κs = search needs
 
 returns-3 : tie.Need-returns-3
 unfolding lentBookCauses lentCauses
 returns-3 c =
-    skip-group _ _ (numbered-tables _ _ _) (c .before .before .before .before .table-number .ensures) (c .before .before .before .if1 .left)
-    (skip 12 _ (ap not (sym (c .before .before .good-limits .ensures)) ∙ c .before .if2 .left) (c .state-number .ensures))
+    skip-group _ _ (numbered-tables _ _ _) (c .before .before .before .before .before .table-number .ensures) (c .before .before .before .before .if1 .left)
+    (skip 12 _ (ap not (sym (c .before .before .before .good-limits .ensures)) ∙ c .before .before .if2 .left)
+    (hit 13 _ (ap not (sym (c .before .good-pieces .ensures)) ∙ c .if3 .taken)))
+
+state-number-requires : tie.Need-state-number-requires
+state-number-requires c κs =
+    let z = sym (c .before .before .before .before .before .table-number .ensures) ∙ c .before .before .before .before .if1 .left in
+    (calendar-length _ _ _ z, balance-length _ _ _ z)
+
+returns-4 : tie.Need-returns-4
+unfolding lentBookCauses lentCauses
+returns-4 c =
+    skip-group _ _ (numbered-tables _ _ _) (c .before .before .before .before .before .before .table-number .ensures) (c .before .before .before .before .before .if1 .left)
+    (skip 12 _ (ap not (sym (c .before .before .before .before .good-limits .ensures)) ∙ c .before .before .before .if2 .left)
+    (skip 13 _ (ap not (sym (c .before .before .good-pieces .ensures)) ∙ c .before .if3 .left) (c .state-number .ensures)))
 
 pub transfer-number-spec : {M : Type 1} → statement M
 transfer-number-spec =
@@ -43,5 +54,7 @@ transfer-number-spec =
     returns
     good-limits-requires
     returns-2
+    good-pieces-requires
+    returns-3
     state-number-requires
-    returns-3)
+    returns-4)

@@ -11,12 +11,12 @@ returns : tie.Need-returns
 unfolding goodLimits
 returns c = sym (search (no-left, no-right, ne-eqb _ 5 (c .if1 .taken)) depth 8)
 
-all-limits-requires : tie.Need-all-limits-requires
-all-limits-requires c κs = search needs
+all-from-one-to-requires : tie.Need-all-from-one-to-requires
+all-from-one-to-requires c κs = search needs
 
 returns-2 : tie.Need-returns-2
 unfolding goodLimits
-returns-2 c = sym (search (no-left, no-right, sym (c .before .all-limits .ensures) ∙ not-true _ (c .if2 .taken)) depth 8)
+returns-2 c = sym (search (no-left, no-right, sym (c .before .all-from-one-to .ensures) ∙ not-true _ (c .if2 .taken)) depth 8)
 
 shared-slice-read-if3 : tie.Need-shared-slice-read-if3
 shared-slice-read-if3 c = search needs
@@ -49,7 +49,7 @@ unfolding goodLimits
 returns-5 c =
     rw (
       eq-eqb _ 5 (c .before .before .before .before .before .before .before .before .before .before .if1 .left),
-      sym (c .before .before .before .before .before .before .before .before .before .all-limits .ensures) ∙ not-false _ (c .before .before .before .before .before .before .before .before .if2 .left),
+      sym (c .before .before .before .before .before .before .before .before .before .all-from-one-to .ensures) ∙ not-false _ (c .before .before .before .before .before .before .before .before .if2 .left),
       le-leb _ _ (c .before .before .before .before .before .if3 .left),
       le-leb _ _ (c .before .before .if4 .left),
     )
@@ -59,7 +59,7 @@ good-limits-spec =
     tie.close
     (tie.spec
     returns
-    all-limits-requires
+    all-from-one-to-requires
     returns-2
     shared-slice-read-if3
     shared-slice-read-if3-2

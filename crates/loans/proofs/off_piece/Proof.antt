@@ -1,0 +1,83 @@
+-- A multiple of the piece is on it; else the balance of a decrease decides, and any other transfer is off.
+use mathlib.Core.Path.{sym, ap, _∙_}
+use Prim.Native.Nat.{ℕ, _%_}
+use Rattle.book.specs.Loans.{byReceiver}
+use Rattle.book.proofs.Posted.{on-piece, off-decrease, off-other}
+use Rattle.securities.proofs.Sound.{sixteen-pieces, piece-some, piece-read}
+use borrow.Author.Needs.{needs}
+use native.Mathlib.Omega.{arith}
+use Rattle.loans.proofs.off_piece.Statement.{statement}
+use Rattle.loans.proofs.off_piece.Tie as tie
+
+cast-if1 : tie.Need-cast-if1
+cast-if1 c = search needs
+
+mul-if1 : tie.Need-mul-if1
+mul-if1 c = search needs
+
+shared-slice-read-if1 : tie.Need-shared-slice-read-if1
+shared-slice-read-if1 c =
+    let s = c .before .before .before .before in
+    omega (arith, sixteen-pieces (s .args .pieces .now) (s .pre .0), s .pre .4)
+
+rem-if1 : tie.Need-rem-if1
+rem-if1 c =
+    let s = c .before .before .before .before .before in
+    rw (piece-read (s .args .pieces .now) (s .args .t .security) (s .pre .0) (s .pre .4))
+    (piece-some (s .args .pieces .now) (s .args .t .security) (s .pre .0) (s .pre .4))
+
+returns : tie.Need-returns
+returns c =
+    let s = c .before .before .before .before .before .before in
+    on-piece (s .args .pieces .now) _ (s .args .t)
+    (ap (λ (n : ℕ). s .args .t .par % n) (sym (piece-read (s .args .pieces .now) (s .args .t .security) (s .pre .0) (s .pre .4))) ∙ c .if1 .taken)
+
+decreases-requires : tie.Need-decreases-requires
+decreases-requires c κs = search needs
+
+word-of-requires : tie.Need-word-of-requires
+word-of-requires c κs = search needs
+
+mul-borrowed : tie.Need-mul-borrowed
+mul-borrowed c = search needs
+
+shared-slice-read-borrowed : tie.Need-shared-slice-read-borrowed
+shared-slice-read-borrowed c = search needs
+
+cast-result : tie.Need-cast-result
+cast-result c = search needs
+
+returns-2 : tie.Need-returns-2
+unfolding byReceiver
+returns-2 c =
+    let s = c .before .before .before .before .before .before .before .before .before .before .before in
+    off-decrease (s .args .pieces .now) _ (s .args .t)
+    (λ z. c .before .before .before .before .before .if1 .left
+    (ap (λ (n : ℕ). s .args .t .par % n) (piece-read (s .args .pieces .now) (s .args .t .security) (s .pre .0) (s .pre .4)) ∙ z)) _
+    (sym (c .before .before .before .before .decreases .ensures) ∙ c .before .before .before .if2 .taken)
+    (c .before .before .word-of .ensures .0)
+
+returns-3 : tie.Need-returns-3
+returns-3 c =
+    let s = c .before .before .before .before .before .before .before .before in
+    off-other (s .args .pieces .now) _ (s .args .t)
+    (λ z. c .before .before .if1 .left
+    (ap (λ (n : ℕ). s .args .t .par % n) (piece-read (s .args .pieces .now) (s .args .t .security) (s .pre .0) (s .pre .4)) ∙ z))
+    (sym (c .before .decreases .ensures) ∙ c .if2 .left)
+
+pub off-piece-spec : {M : Type 1} → statement M
+off-piece-spec =
+    tie.close
+    (tie.spec
+    cast-if1
+    mul-if1
+    shared-slice-read-if1
+    rem-if1
+    returns
+    decreases-requires
+    word-of-requires
+    mul-borrowed
+    shared-slice-read-borrowed
+    cast-result
+    returns-2
+    returns-3)
