@@ -1,7 +1,7 @@
 -- Each group of causes is judged in the table's order; the last decides.
 use mathlib.Core.Path.{sym, _∙_}
 use Rattle.history.proofs.Accepted.{fields}
-use Rattle.transfers.proofs.Numbers.{out-number, edit-number, count-number, loan-decides}
+use Rattle.transfers.proofs.Numbers.{out-number, edit-number, count-number, posting-decides}
 use borrow.Author.Needs.{needs}
 use Rattle.transfers.proofs.own_number.Statement.{statement}
 use Rattle.transfers.proofs.own_number.Tie as tie
@@ -11,32 +11,33 @@ out-of-range-requires c κs = search needs
 
 returns : tie.Need-returns
 returns c =
-    let a = c .before .before .before .before .args in
-    out-number (a .tables .now) (a .book) (a .balances .now) (a .t) (a .tag) (sym (c .before .out-of-range .ensures) ∙ c .if1 .taken)
+    let a = c .before .before .before .before .before .args in
+    out-number (a .tables .now) (a .pieces .now) (a .book) (a .balances .now) (a .t) (a .tag) (sym (c .before .out-of-range .ensures) ∙ c .if1 .taken)
 
 edits-requires : tie.Need-edits-requires
 edits-requires c κs = search needs
 
 returns-2 : tie.Need-returns-2
 returns-2 c =
-    let a = c .before .before .before .before .before .before .args in
-    edit-number (a .tables .now) (a .book) (a .balances .now) (a .t) (a .tag) (sym (c .before .before .before .out-of-range .ensures) ∙ c .before .before .if1 .left) _ (c .before .edits .ensures) (c .if2 .taken)
+    let a = c .before .before .before .before .before .before .before .args in
+    edit-number (a .tables .now) (a .pieces .now) (a .book) (a .balances .now) (a .t) (a .tag) (sym (c .before .before .before .out-of-range .ensures) ∙ c .before .before .if1 .left) _ (c .before .edits .ensures) (c .if2 .taken)
 
 returns-3 : tie.Need-returns-3
 returns-3 c =
-    let a = c .before .before .before .before .before .before .before .before .args in
-    count-number (a .tables .now) (a .book) (a .balances .now) (a .t) (a .tag) (sym (c .before .before .before .before .before .out-of-range .ensures) ∙ c .before .before .before .before .if1 .left) _ (c .before .before .before .edits .ensures) (c .before .before .if2 .left) (c .if3 .taken)
+    let a = c .before .before .before .before .before .before .before .before .before .args in
+    count-number (a .tables .now) (a .pieces .now) (a .book) (a .balances .now) (a .t) (a .tag) (sym (c .before .before .before .before .before .out-of-range .ensures) ∙ c .before .before .before .before .if1 .left) _ (c .before .before .before .edits .ensures) (c .before .before .if2 .left) (c .if3 .taken)
 
-loan-number-requires : tie.Need-loan-number-requires
-loan-number-requires c κs =
-    let a = c .before .before .before .before .before .before .before .before .args in
+posting-number-requires : tie.Need-posting-number-requires
+posting-number-requires c κs =
+    let a = c .before .before .before .before .before .before .before .before .before .args in
     let f = fields (a .tables .now) (a .t) (sym (c .before .before .before .before .before .out-of-range .ensures) ∙ c .before .before .before .before .if1 .left) in
-    (c .before .before .before .before .before .before .before .before .pre .1, f .sender, f .receiver, f .security)
+    let s = c .before .before .before .before .before .before .before .before .before in
+    (s .pre .1, s .pre .2, f .sender, f .receiver, f .security)
 
 returns-4 : tie.Need-returns-4
 returns-4 c =
-    let a = c .before .before .before .before .before .before .before .before .before .args in
-    loan-decides (a .tables .now) (a .book) (a .balances .now) (a .t) (a .tag) (sym (c .before .before .before .before .before .before .out-of-range .ensures) ∙ c .before .before .before .before .before .if1 .left) _ (c .before .before .before .before .edits .ensures) (c .before .before .before .if2 .left) _ (c .before .if3 .left) (c .loan-number .ensures)
+    let a = c .before .before .before .before .before .before .before .before .before .before .args in
+    posting-decides (a .tables .now) (a .pieces .now) (a .book) (a .balances .now) (a .t) (a .tag) (sym (c .before .before .before .before .before .before .out-of-range .ensures) ∙ c .before .before .before .before .before .if1 .left) _ (c .before .before .before .before .edits .ensures) (c .before .before .before .if2 .left) _ (c .before .if3 .left) (c .posting-number .ensures)
 
 pub own-number-spec : {M : Type 1} → statement M
 own-number-spec =
@@ -47,5 +48,5 @@ own-number-spec =
     edits-requires
     returns-2
     returns-3
-    loan-number-requires
+    posting-number-requires
     returns-4)

@@ -24,17 +24,17 @@ refused-requires c κs = search needs
 returns : tie.Need-returns
 unfolding bufferOf soundCauses
 returns c =
-    let s = c .before .before .before .before .before .before .before .before .before .before in
+    let s = c .before .before .before .before .before .before .before .before .before .before .before in
     let a = s .args in
     rw (c .refused .ensures)
-    (answers-refused (a .calendar .now) (a .tables .now) (a .book) (a .balances .now) (transfer (record { message = a .message .now; buffer = a .claims .now; limits = a .limits .now })) _
-    (sound-number (a .calendar .now) (a .tables .now) (a .book) (a .balances .now) (transfer (record { message = a .message .now; buffer = a .claims .now; limits = a .limits .now })) _ (s .pre)
-    (transfer-cut (a .calendar .now) (a .tables .now) (a .book) (a .balances .now) (record { message = a .message .now; buffer = a .claims .now; limits = a .limits .now }) (transfer-not (a .message .now) (c .before .before .before .read-transfer .ensures) (c .before .enum-told .given .1))))
+    (answers-refused (a .calendar .now) (a .tables .now) (a .book) (a .balances .now) (transfer (record { message = a .message .now; buffer = a .claims .now; limits = a .limits .now; pieces = a .pieces .now })) _
+    (sound-number (a .calendar .now) (a .tables .now) (a .book) (a .balances .now) (transfer (record { message = a .message .now; buffer = a .claims .now; limits = a .limits .now; pieces = a .pieces .now })) _ (s .pre)
+    (transfer-cut (a .calendar .now) (a .tables .now) (a .book) (a .balances .now) (record { message = a .message .now; buffer = a .claims .now; limits = a .limits .now; pieces = a .pieces .now }) (transfer-not (a .message .now) (c .before .before .before .read-transfer .ensures) (c .before .enum-told .given .1))))
     (λ z. omega arith))
 
 transfer-read-requires : tie.Need-transfer-read-requires
 transfer-read-requires c κs =
-    let s = c .before .before .before .before .before .before .before .before .before .before .before .before in
+    let s = c .before .before .before .before .before .before .before .before .before .before .before .before .before in
     let f = transfer-is (s .args .message .now) (c .before .before .before .before .before .read-transfer .ensures) (c .before .before .before .t .given .1) in
     (s .pre, f .whole, f .same)
 

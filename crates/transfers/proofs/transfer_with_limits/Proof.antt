@@ -18,8 +18,8 @@ same-length c = search needs
 returns : tie.Need-returns
 unfolding bufferOf soundCauses
 returns c =
-    let a = c .before .before .before .before .before .before .before .before .before .before .args in
-    let k = transfer (record { message = a .message .now; buffer = a .claims .now; limits = a .limits .now }) in
+    let a = c .before .before .before .before .before .before .before .before .before .before .before .args in
+    let k = transfer (record { message = a .message .now; buffer = a .claims .now; limits = a .limits .now; pieces = a .pieces .now }) in
     rw (c .refused .ensures)
     (answers-refused (a .calendar .now) (a .tables .now) (a .book) (a .balances .now) k _ (book-refuses (a .calendar .now) (a .tables .now) (a .book) (a .balances .now) k _ (c .before .before .transfer-number .ensures) (c .before .if1 .taken)) (c .before .if1 .taken))
 
