@@ -14,6 +14,7 @@ use Rattle.lists.specs.Put.{put, put-start, put-put, put-length}
 use Rattle.records.specs.declared.Wrote.{Wrote}
 use Rattle.records.specs.MessageRecords.{closeKind, answerKind, size, recordBytes, reads, Writing, writing, wroteNumber}
 use Rattle.records.proofs.Answers.{stored-record}
+use Rattle.securities.specs.Lent.{ones}
 use Rattle.claims.specs.Written.{bytesOfAll, written}
 use Rattle.claims.specs.Passes.{all-length}
 use Rattle.claims.proofs.Written.{length-written}
@@ -41,7 +42,7 @@ stored-answer l o at number r h e = stored-record answerKind (number ∷ []) [] 
 -- ---- a call with another claim buffer of the same length
 
 unfoldable withBuffer : List ℕ → Call → Call
-withBuffer buffer (transfer a) = transfer (record { message = a .message; buffer = buffer; limits = a .limits })
+withBuffer buffer (transfer a) = transfer (record { message = a .message; buffer = buffer; limits = a .limits; pieces = a .pieces })
 withBuffer buffer (close a) = close (record { message = a .message; buffer = buffer })
 
 with-buffer : (buffer message : List ℕ) → callWith buffer message ≡ withBuffer buffer (callFor message)
@@ -52,8 +53,8 @@ with-buffer buffer message = go (reads closeKind message)
     zeros = replicate 65536 0
 
     go : (b : Bool)
-        → cond b (close (record { message = message; buffer = buffer })) (publishedTransfer (record { message = message; buffer = buffer }))
-        ≡ withBuffer buffer (cond b (close (record { message = message; buffer = zeros })) (publishedTransfer (record { message = message; buffer = zeros })))
+        → cond b (close (record { message = message; buffer = buffer })) (publishedTransfer ones (record { message = message; buffer = buffer }))
+        ≡ withBuffer buffer (cond b (close (record { message = message; buffer = zeros })) (publishedTransfer ones (record { message = message; buffer = zeros })))
     go true = refl
     go false = refl
 
@@ -145,7 +146,7 @@ module _ (calendar tables : List ℕ) (book : Book) (balances message l : List �
     where
       size-of : (b : Bool)
           → min 65536 (length l)
-          ≡ length (bufferOf (cond b (close (record { message = message; buffer = replicate 65536 0 })) (publishedTransfer (record { message = message; buffer = replicate 65536 0 }))))
+          ≡ length (bufferOf (cond b (close (record { message = message; buffer = replicate 65536 0 })) (publishedTransfer ones (record { message = message; buffer = replicate 65536 0 }))))
       size-of true = rw (length-replicate {A = ℕ} 65536 0) (omega arith)
       size-of false = rw (length-replicate {A = ℕ} 65536 0) (omega arith)
 
@@ -312,7 +313,7 @@ module _ (calendar tables : List ℕ) (book : Book) (balances buffer message : L
   calls-close e = ap (result calendar tables book balances) (sym (cond-true _ _ e))
 
   pub calls-transfer : reads closeKind message ≡ false
-      → result calendar tables book balances (publishedTransfer (record { message = message; buffer = buffer }))
+      → result calendar tables book balances (publishedTransfer ones (record { message = message; buffer = buffer }))
       ≡ result calendar tables book balances (callWith buffer message)
   unfolding callWith
   calls-transfer e = ap (result calendar tables book balances) (sym (cond-false _ _ e))

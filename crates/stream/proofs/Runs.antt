@@ -13,6 +13,7 @@ use Rattle.lists.specs.Tests.{cond-true, cond-false}
 use Rattle.lists.specs.First.{firstOf}
 use Rattle.lists.specs.Put.{put, put-none, put-put, put-length}
 use Rattle.records.specs.MessageRecords.{closeKind, size, reads}
+use Rattle.securities.specs.Lent.{ones}
 use Rattle.claims.specs.Written.{written}
 use Rattle.book.specs.declared.Book.{Book}
 use Rattle.book.specs.Soundness.{bookCauses}
@@ -38,7 +39,7 @@ module _ (calendar tables : List ℕ) (book : Book) (balances message : List ℕ
   buffer-size = go (reads closeKind message)
     where
       go : (b : Bool)
-          → length (bufferOf (cond b (close (record { message = message; buffer = replicate 65536 0 })) (publishedTransfer (record { message = message; buffer = replicate 65536 0 }))))
+          → length (bufferOf (cond b (close (record { message = message; buffer = replicate 65536 0 })) (publishedTransfer ones (record { message = message; buffer = replicate 65536 0 }))))
           ≡ 65536
       go true = length-replicate {A = ℕ} 65536 0
       go false = length-replicate {A = ℕ} 65536 0

@@ -33,7 +33,7 @@ forms-agree calendar tables book balances call d buffer after r own buffer′ af
 
 pub published-form : PublishedFormAgrees
 unfolding maximumNumbers
-published-form calendar tables book balances message found d d′ buffer after buffer′ after′ e e′ = left-same (e ∙ sym e′)
+published-form calendar tables pieces book balances message found d d′ buffer after buffer′ after′ e e′ = left-same (e ∙ sym e′)
 
 module _ (calendar tables : List ℕ) (book : Book) (balances : List ℕ) where
   refused-for : (n : ℕ) (call : Call) (r : Reply) (own : Book) (buffer after : List ℕ)

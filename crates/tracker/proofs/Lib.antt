@@ -1,3 +1,5 @@
 pub mod Forms
 pub mod Readings
 pub mod Walk
+pub mod WalkClose
+pub mod WalkTransfer

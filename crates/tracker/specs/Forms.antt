@@ -31,9 +31,9 @@ FormsAgree = (calendar tables : List ℕ) (book : Book) (balances : List ℕ) (c
 
 -- On the same values a transfer that is lent the published numbers and one in the form without limits give and leave the same.
 abbrev pub PublishedFormAgrees : Type 0
-PublishedFormAgrees = (calendar tables : List ℕ) (book : Book) (balances message found : List ℕ) (d d′ : Done) (buffer after buffer′ after′ : List ℕ)
-    → Gives calendar tables book balances (transfer (record { message = message; buffer = found; limits = 7 ∷ 6 ∷ 3 ∷ 2 ∷ 1 ∷ [] })) d buffer after
-    → Gives calendar tables book balances (publishedTransfer (record { message = message; buffer = found })) d′ buffer′ after′
+PublishedFormAgrees = (calendar tables pieces : List ℕ) (book : Book) (balances message found : List ℕ) (d d′ : Done) (buffer after buffer′ after′ : List ℕ)
+    → Gives calendar tables book balances (transfer (record { message = message; buffer = found; limits = 7 ∷ 6 ∷ 3 ∷ 2 ∷ 1 ∷ []; pieces = pieces })) d buffer after
+    → Gives calendar tables book balances (publishedTransfer pieces (record { message = message; buffer = found })) d′ buffer′ after′
     → Same d buffer after d′ buffer′ after′
 
 -- A refused call leaves the caller's book, the claim buffer and the balances as they were, and writes no claim.
