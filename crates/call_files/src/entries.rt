@@ -1,14 +1,14 @@
 // Files of single calls and of what they should give: an entry for each call, one after another, in the same order in both files.
-// An entry of the calls: the call in a byte (0 open, 1 transfer, 2 close, 3 transfer with limits); the number of calendar words in four
-// bytes and the words; the tables likewise; balances; day and count; the length of the message in four bytes and the message; the claim
-// buffer likewise; of a transfer with limits the limits likewise, and four bytes for pieces, which are not lent.
+// An entry of the calls: the call in a byte (0 open, 1 transfer with ones as pieces, 2 close, 3 transfer that is lent lists); the number of
+// calendar words in four bytes and the words; the tables likewise; balances; day and count; the length of the message in four bytes and the
+// message; the claim buffer likewise; of a transfer that is lent lists the limits and then the pieces, each as the calendar, or 4294967295
+// in four bytes where it is not lent.
 // An entry of what they give: the number in two bytes; day, count and claims in four each; balances; the claim buffer.
 // Balances: how many words in four bytes, how many of them are not zero in four, and for each of these its place and its par.
-use crate::LENT_TRANSFER;
-use crate::Limits;
+use crate::Lists;
 use crate::byte_at;
 use crate::half_at;
-use crate::limits_at;
+use crate::lists_at;
 use crate::past_pairs;
 use crate::past_words;
 use crate::plus;
@@ -29,8 +29,7 @@ pub struct Entry {
     pub message_length: usize,
     pub buffer: usize,
     pub buffer_length: usize,
-    pub limits: Limits,
-    pub next: usize,
+    pub lists: Lists,
 }
 
 // What a call should give.
@@ -56,14 +55,6 @@ fn past_bytes(s: &[u8], at: usize) -> usize {
     plus(plus(at, 4), word_at(s, at) as usize)
 }
 
-// The place behind the pieces of a call at a place.
-fn past_pieces(kind: u8, at: usize) -> usize {
-    if kind == LENT_TRANSFER {
-        return plus(at, 4);
-    }
-    at
-}
-
 // The call at a place.
 pub fn entry_at(s: &[u8], at: usize) -> Entry {
     let calendar = plus(at, 1);
@@ -73,7 +64,6 @@ pub fn entry_at(s: &[u8], at: usize) -> Entry {
     let message = plus(book, 8);
     let buffer = past_bytes(s, message);
     let kind = byte_at(s, at);
-    let limits = limits_at(kind, s, past_bytes(s, buffer));
     Entry {
         kind,
         calendar: plus(calendar, 4),
@@ -88,8 +78,7 @@ pub fn entry_at(s: &[u8], at: usize) -> Entry {
         message_length: word_at(s, message) as usize,
         buffer: plus(buffer, 4),
         buffer_length: word_at(s, buffer) as usize,
-        limits,
-        next: past_pieces(kind, past_words(limits.at, limits.words)),
+        lists: lists_at(kind, s, past_bytes(s, buffer)),
     }
 }
 

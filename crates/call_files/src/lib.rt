@@ -11,13 +11,24 @@ use libc::STDOUT_FILENO;
 pub mod entries;
 pub mod steps;
 
-// The kind of a transfer that is lent limits.
+// The kind of a transfer that is lent lists of the file: limits, or none of them, and pieces.
 const LENT_TRANSFER: u8 = 3;
 
-// Where the limits of a call stand, and how many there are.
-pub struct Limits {
+// The length of a list that is not lent.
+const NOT_LENT: u32 = 4294967295;
+
+// A list of a call: whether it is lent, where its numbers stand, and how many there are.
+pub struct Numbers {
+    pub is_lent: bool,
     pub at: usize,
     pub words: u32,
+}
+
+// The lists of a call, and the place behind them.
+pub struct Lists {
+    pub limits: Numbers,
+    pub pieces: Numbers,
+    pub next: usize,
 }
 
 // The modulus of the checksums, a prime.
@@ -209,22 +220,52 @@ pub fn same_balances(a: &[u64], b: &[u64]) -> bool
     true
 }
 
-// The limits of a call at a place: none but for a transfer that is lent them.
-pub fn limits_at(kind: u8, s: &[u8], at: usize) -> Limits {
-    if kind == LENT_TRANSFER {
-        return Limits {
+// The list at a place.
+fn numbers_at(s: &[u8], at: usize) -> Numbers {
+    let words = word_at(s, at);
+    if words == NOT_LENT {
+        return Numbers {
+            is_lent: false,
             at: plus(at, 4),
-            words: word_at(s, at),
+            words: 0,
         };
     }
-    Limits { at, words: 0 }
+    Numbers {
+        is_lent: true,
+        at: plus(at, 4),
+        words,
+    }
 }
 
-// Fills limits with those at a place, and makes a transfer that is lent them.
+// The lists of a call at a place: none but for a transfer that is lent them.
+pub fn lists_at(kind: u8, s: &[u8], at: usize) -> Lists {
+    if kind != LENT_TRANSFER {
+        let none = Numbers {
+            is_lent: false,
+            at,
+            words: 0,
+        };
+        return Lists {
+            limits: none,
+            pieces: none,
+            next: at,
+        };
+    }
+    let limits = numbers_at(s, at);
+    let pieces = numbers_at(s, past_words(limits.at, limits.words));
+    Lists {
+        limits,
+        pieces,
+        next: past_words(pieces.at, pieces.words),
+    }
+}
+
+// Fills limits and pieces with those of the file, and makes a transfer that is lent them; with no limits in the form without them.
 fn lend(
     s: &[u8],
-    at: usize,
+    lists: Lists,
     limits: &mut [u32],
+    pieces: &mut [u32],
     calendar: &[u32],
     tables: &[u32],
     book: Book,
@@ -232,14 +273,27 @@ fn lend(
     message: &[u8],
     claims: &mut [u8],
 ) -> Done {
-    words_at(s, at, limits);
-    transfers::transfer_with_limits(calendar, tables, limits, book, balances, message, claims)
+    words_at(s, lists.limits.at, limits);
+    words_at(s, lists.pieces.at, pieces);
+    if !lists.limits.is_lent {
+        return transfers::transfer(calendar, tables, pieces, book, balances, message, claims);
+    }
+    transfers::transfer_with_limits(
+        calendar,
+        tables,
+        limits,
+        pieces,
+        book,
+        balances,
+        message,
+        claims,
+    )
 }
 
-// Makes a transfer that is lent limits of the file, up to 16 of them.
+// Makes a transfer that is lent limits and pieces of the file, up to 32 of each.
 fn lent_transfer(
     s: &[u8],
-    lent: Limits,
+    lists: Lists,
     calendar: &[u32],
     tables: &[u32],
     book: Book,
@@ -247,12 +301,15 @@ fn lent_transfer(
     message: &[u8],
     claims: &mut [u8],
 ) -> Done {
-    let mut limits = [0u32; 16];
-    let n = least(lent.words as usize, 16);
+    let mut limits = [0u32; 32];
+    let mut pieces = [0u32; 32];
+    let n = least(lists.limits.words as usize, 32);
+    let m = least(lists.pieces.words as usize, 32);
     lend(
         s,
-        lent.at,
+        lists,
         &mut limits[..n],
+        &mut pieces[..m],
         calendar,
         tables,
         book,
@@ -262,12 +319,25 @@ fn lent_transfer(
     )
 }
 
-// Makes a call: 0 opens a book on the day of the one given, 1 is a transfer, 3 a transfer that is lent limits of the file, any other a
-// close.
+// Makes a transfer that is lent ones as pieces.
+fn plain_transfer(
+    calendar: &[u32],
+    tables: &[u32],
+    book: Book,
+    balances: &mut [u64],
+    message: &[u8],
+    claims: &mut [u8],
+) -> Done {
+    let ones = [1u32; 16];
+    transfers::transfer(calendar, tables, &ones, book, balances, message, claims)
+}
+
+// Makes a call: 0 opens a book on the day of the one given, 1 is a transfer with ones as pieces, 3 a transfer that is lent lists of the
+// file, any other a close.
 pub fn call(
     kind: u8,
     s: &[u8],
-    lent: Limits,
+    lists: Lists,
     calendar: &[u32],
     tables: &[u32],
     book: Book,
@@ -279,10 +349,10 @@ pub fn call(
         return opens::open(calendar, tables, balances, book.day);
     }
     if kind == 1 {
-        return transfers::transfer(calendar, tables, book, balances, message, claims);
+        return plain_transfer(calendar, tables, book, balances, message, claims);
     }
     if kind == LENT_TRANSFER {
-        return lent_transfer(s, lent, calendar, tables, book, balances, message, claims);
+        return lent_transfer(s, lists, calendar, tables, book, balances, message, claims);
     }
     closes::close(calendar, tables, book, balances, message, claims)
 }

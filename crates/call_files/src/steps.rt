@@ -1,17 +1,17 @@
 // Files of steps: the calls of a run, with the tables and the saved books that they start from.
 // A file is its number of steps in four bytes, then the steps. A step is its kind in a byte, the length of its name in a byte, the
 // name, the length of its message in four bytes, the message, and the length of its claim buffer in four bytes. Kinds: 0 opens a book
-// (message: the day), 1 is a transfer, 2 a close, 3 a transfer with limits (behind its claim buffer the number of limits and each of them,
-// in four bytes), 128 sets calendar and tables (message: their words), 129 sets the book (message: day, count, how many balances are not
-// zero, and for each of these its place in four bytes and its par in eight).
-use crate::Limits;
+// (message: the day), 1 is a transfer with ones as pieces, 2 a close, 3 a transfer that is lent lists (behind the length of its claim buffer
+// the number of limits and each of them, in four bytes, or 4294967295 for none; then the pieces likewise), 128 sets calendar and tables
+// (message: their words), 129 sets the book (message: day, count, how many balances are not zero, and for each of these its place in four
+// bytes and its par in eight).
+use crate::Lists;
 use crate::byte_at;
 use crate::call;
 use crate::fill;
-use crate::limits_at;
+use crate::lists_at;
 use crate::pairs_at;
 use crate::part;
-use crate::past_words;
 use crate::plus;
 use crate::word_at;
 use crate::words_at;
@@ -26,8 +26,7 @@ pub struct Step {
     pub message: usize,
     pub message_length: usize,
     pub room: usize,
-    pub limits: Limits,
-    pub next: usize,
+    pub lists: Lists,
 }
 
 // The first kind that is no call: it sets calendar and tables.
@@ -42,7 +41,6 @@ pub fn step_at(s: &[u8], at: usize) -> Step {
     let message_length = word_at(s, length) as usize;
     let room = plus(message, message_length);
     let kind = byte_at(s, at);
-    let limits = limits_at(kind, s, plus(room, 4));
     Step {
         kind,
         name,
@@ -50,8 +48,7 @@ pub fn step_at(s: &[u8], at: usize) -> Step {
         message,
         message_length,
         room: word_at(s, room) as usize,
-        limits,
-        next: past_words(limits.at, limits.words),
+        lists: lists_at(kind, s, plus(room, 4)),
     }
 }
 
@@ -125,7 +122,7 @@ pub fn make(
     call(
         step.kind,
         s,
-        step.limits,
+        step.lists,
         calendar,
         tables,
         book,

@@ -145,7 +145,7 @@ fn take_steps(
     while 0 < left {
         let step = steps::step_at(s, at);
         book = take_step(s, step, calendar, tables, book, balances, claims);
-        at = step.next;
+        at = step.lists.next;
         left -= 1;
     }
 }

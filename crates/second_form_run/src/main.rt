@@ -1,6 +1,7 @@
 // Runs document 01's loan cases in both forms: start 50,000, return 20,000, ADSR 15,000 and ADSR 15,001, then the close of 20230331,
-// first with no room for its claim. It writes a line for each call: name, number, day, count, claims written and the par that account 1
-// has lent account 2 after it; then April's claim in cents, and whether both forms leave the same balances and claim buffers.
+// first with no room for its claim. Before it come a start off its piece and one with a piece of 0, after it the return of the whole
+// balance off the piece (document 02, card 6). It writes a line for each call: name, number, day, count, claims written and the par that
+// account 1 has lent account 2 after it; then April's claim in cents, and whether both forms leave the same balances and claim buffers.
 ghost use Prim.Native.Nat.{_≤_, _<_};
 use book::Book;
 use book::Done;
@@ -71,15 +72,32 @@ fn transfer(
     second: bool,
     calendar: &[u32],
     tables: &[u32],
+    pieces: &[u32],
     book: Book,
     balances: &mut [u64],
     message: &[u8],
     claims: &mut [u8],
 ) -> Done {
     if second {
-        return second_form::transfer_lent(calendar, tables, book, balances, message, claims);
+        return second_form::transfer_lent(
+            calendar,
+            tables,
+            pieces,
+            book,
+            balances,
+            message,
+            claims,
+        );
     }
-    tracker::calls::claim_tracker_transfer(calendar, tables, book, balances, message, claims)
+    tracker::calls::claim_tracker_transfer(
+        calendar,
+        tables,
+        pieces,
+        book,
+        balances,
+        message,
+        claims,
+    )
 }
 
 // A close by value or in the second form.
@@ -98,12 +116,13 @@ fn close(
     tracker::calls::claim_tracker_close(calendar, tables, book, balances, message, claims)
 }
 
-// Makes a transfer in one form, writes its line and answers the book after it.
+// Makes a transfer in one form, with a piece of security 0, writes its line and answers the book after it.
 fn run_transfer(
     second: bool,
     name: &[u8],
     calendar: &[u32; 480],
     tables: &[u32; 1824],
+    piece: u32,
     book: Book,
     balances: &mut [u64; 8192],
     fields: Transfer,
@@ -112,10 +131,13 @@ fn run_transfer(
     let mut message = [0u8; 141];
     writing::write_transfer(&mut message, fields, &line, &line);
     let mut claims = [0u8; 35];
+    let mut pieces = [1u32; 16];
+    pieces[0] = piece;
     let done = transfer(
         second,
         calendar,
         tables,
+        &pieces,
         book,
         balances,
         &message,
@@ -164,6 +186,103 @@ fn loan(code: u8, sender: u8, receiver: u8, par: u32) -> Transfer {
     }
 }
 
+// Runs the transfers of the cases in one form and answers the book after them.
+fn run_loans(
+    second: bool,
+    calendar: &[u32; 480],
+    tables: &[u32; 1824],
+    book: Book,
+    balances: &mut [u64; 8192],
+) -> Book {
+    let start = loan(1, 1, 2, 50000);
+    let book = run_transfer(
+        second,
+        b"start 50,000",
+        calendar,
+        tables,
+        1,
+        book,
+        balances,
+        start,
+    );
+    let back = loan(3, 2, 1, 20000);
+    let book = run_transfer(
+        second,
+        b"return 20,000",
+        calendar,
+        tables,
+        1,
+        book,
+        balances,
+        back,
+    );
+    let less = loan(6, 2, 1, 15000);
+    let book = run_transfer(
+        second,
+        b"ADSR 15,000",
+        calendar,
+        tables,
+        1,
+        book,
+        balances,
+        less,
+    );
+    let above = loan(6, 2, 1, 15001);
+    run_transfer(
+        second,
+        b"ADSR 15,001",
+        calendar,
+        tables,
+        1,
+        book,
+        balances,
+        above,
+    )
+}
+
+// Runs transfers that are refused for their pieces in one form and answers the book after them.
+fn run_refused(
+    second: bool,
+    calendar: &[u32; 480],
+    tables: &[u32; 1824],
+    book: Book,
+    balances: &mut [u64; 8192],
+) -> Book {
+    let start = loan(1, 1, 2, 1500);
+    let thousands = b"start 1,500 in pieces of 1,000";
+    let book = run_transfer(
+        second,
+        thousands,
+        calendar,
+        tables,
+        1000,
+        book,
+        balances,
+        start,
+    );
+    let nothings = b"start 1,500 in pieces of 0";
+    run_transfer(second, nothings, calendar, tables, 0, book, balances, start)
+}
+
+// Runs the closes of the cases in one form, then the return of the whole balance.
+fn run_closes(
+    second: bool,
+    calendar: &[u32; 480],
+    tables: &[u32; 1824],
+    book: Book,
+    balances: &mut [u64; 8192],
+    claims: &mut [u8; 70],
+) {
+    let mut short = [0u8; 34];
+    let early = b"close without room";
+    let book = run_close(second, early, calendar, tables, book, balances, &mut short);
+    let book = run_close(second, b"close", calendar, tables, book, balances, claims);
+    print_cents(claims);
+    let whole = loan(3, 2, 1, 15000);
+    let sevens = b"return 15,000 in pieces of 7";
+    run_transfer(second, sevens, calendar, tables, 7, book, balances, whole);
+}
+
 // Runs the cases in one form.
 fn run_cases(
     second: bool,
@@ -174,54 +293,9 @@ fn run_cases(
 ) {
     let opened = tracker::calls::claim_tracker_open(calendar, tables, balances, 20230331);
     let book = told(b"opening", opened, balances);
-    let book = run_transfer(
-        second,
-        b"start 50,000",
-        calendar,
-        tables,
-        book,
-        balances,
-        loan(1, 1, 2, 50000),
-    );
-    let book = run_transfer(
-        second,
-        b"return 20,000",
-        calendar,
-        tables,
-        book,
-        balances,
-        loan(3, 2, 1, 20000),
-    );
-    let book = run_transfer(
-        second,
-        b"ADSR 15,000",
-        calendar,
-        tables,
-        book,
-        balances,
-        loan(6, 2, 1, 15000),
-    );
-    let book = run_transfer(
-        second,
-        b"ADSR 15,001",
-        calendar,
-        tables,
-        book,
-        balances,
-        loan(6, 2, 1, 15001),
-    );
-    let mut short = [0u8; 34];
-    let book = run_close(
-        second,
-        b"close without room",
-        calendar,
-        tables,
-        book,
-        balances,
-        &mut short,
-    );
-    run_close(second, b"close", calendar, tables, book, balances, claims);
-    print_cents(claims);
+    let book = run_loans(second, calendar, tables, book, balances);
+    let book = run_refused(second, calendar, tables, book, balances);
+    run_closes(second, calendar, tables, book, balances, claims);
 }
 
 // Writes whether both forms leave the same balances and claim buffers.

@@ -53,11 +53,24 @@ pub extern "C" fn claim_tracker_transfer_with_limits(
     claims: &mut [u8],
 ) -> Done
     ensures { λ r. ⌜ Gives (now (calendar .entry)) (now (tables .entry)) book (now (balances .entry))
-        (Call.transfer (record { message = now (message .entry); buffer = now (claims .entry); limits = now (limits .entry);
-        pieces = now (pieces .entry) }))
+        (Call.transfer (record {
+          message = now (message .entry);
+          buffer = now (claims .entry);
+          limits = now (limits .entry);
+          pieces = now (pieces .entry);
+        }))
         r (now (claims .exit)) (now (balances .exit)) ⌝ }
 {
-    transfers::transfer_with_limits(calendar, tables, limits, pieces, book, balances, message, claims)
+    transfers::transfer_with_limits(
+        calendar,
+        tables,
+        limits,
+        pieces,
+        book,
+        balances,
+        message,
+        claims,
+    )
 }
 
 // Works a close: the day moves to the next open day, and the lending and repo claims of the Record Dates crossed are written from the

@@ -100,8 +100,12 @@ fn transfer_read(
     requires { ⌜ (firstOf (lentBookCauses (now calendar) (now tables) (now limits) (now pieces) (book .day) (now balances)) ≡ 0)
         × (reads transferKind (now message) ≡ true) × (t ≡ transferOf (now message)) ⌝ }
     ensures { λ r. ⌜ Gives (now (calendar .entry)) (now (tables .entry)) book (now (balances .entry))
-        (Call.transfer (record { message = now (message .entry); buffer = now (claims .entry); limits = now (limits .entry);
-        pieces = now (pieces .entry) }))
+        (Call.transfer (record {
+          message = now (message .entry);
+          buffer = now (claims .entry);
+          limits = now (limits .entry);
+          pieces = now (pieces .entry);
+        }))
         r (now (claims .exit)) (now (balances .exit)) ⌝ }
 {
     let tag = tags::tag_of(reading::first_line(message), reading::second_line(message));
@@ -138,14 +142,28 @@ fn sound_with_limits(
 ) -> Done
     requires { ⌜ firstOf (lentBookCauses (now calendar) (now tables) (now limits) (now pieces) (book .day) (now balances)) ≡ 0 ⌝ }
     ensures { λ r. ⌜ Gives (now (calendar .entry)) (now (tables .entry)) book (now (balances .entry))
-        (Call.transfer (record { message = now (message .entry); buffer = now (claims .entry); limits = now (limits .entry);
-        pieces = now (pieces .entry) }))
+        (Call.transfer (record {
+          message = now (message .entry);
+          buffer = now (claims .entry);
+          limits = now (limits .entry);
+          pieces = now (pieces .entry);
+        }))
         r (now (claims .exit)) (now (balances .exit)) ⌝ }
 {
     let ReadTransfer::Is(t) = reading::read_transfer(message) else {
         return book::refused(5, book);
     };
-    transfer_read(calendar, tables, limits, pieces, book, balances, message, claims, t)
+    transfer_read(
+        calendar,
+        tables,
+        limits,
+        pieces,
+        book,
+        balances,
+        message,
+        claims,
+        t,
+    )
 }
 
 // The transfer of any book with any limits and pieces: the first number that applies, or its par posted and its claims.
@@ -160,15 +178,28 @@ pub fn transfer_with_limits(
     claims: &mut [u8],
 ) -> Done
     ensures { λ r. ⌜ Gives (now (calendar .entry)) (now (tables .entry)) book (now (balances .entry))
-        (Call.transfer (record { message = now (message .entry); buffer = now (claims .entry); limits = now (limits .entry);
-        pieces = now (pieces .entry) }))
+        (Call.transfer (record {
+          message = now (message .entry);
+          buffer = now (claims .entry);
+          limits = now (limits .entry);
+          pieces = now (pieces .entry);
+        }))
         r (now (claims .exit)) (now (balances .exit)) ⌝ }
 {
     let number = judging::transfer_number(calendar, tables, limits, pieces, book.day, balances);
     if number != 0 {
         return book::refused(number, book);
     }
-    sound_with_limits(calendar, tables, limits, pieces, book, balances, message, claims)
+    sound_with_limits(
+        calendar,
+        tables,
+        limits,
+        pieces,
+        book,
+        balances,
+        message,
+        claims,
+    )
 }
 
 // The transfer of a sound book with the published numbers and ones as pieces: numbers 1 to 4 do not apply.
@@ -186,7 +217,16 @@ pub fn transfer_sound(
 {
     let numbers = MAXIMUM_NUMBERS;
     let ones = [1u32; 16];
-    sound_with_limits(calendar, tables, &numbers, &ones, book, balances, message, claims)
+    sound_with_limits(
+        calendar,
+        tables,
+        &numbers,
+        &ones,
+        book,
+        balances,
+        message,
+        claims,
+    )
 }
 
 // The transfer of any book and pieces with the published numbers.
@@ -204,5 +244,14 @@ pub fn transfer(
         r (now (claims .exit)) (now (balances .exit)) ⌝ }
 {
     let numbers = MAXIMUM_NUMBERS;
-    transfer_with_limits(calendar, tables, &numbers, pieces, book, balances, message, claims)
+    transfer_with_limits(
+        calendar,
+        tables,
+        &numbers,
+        pieces,
+        book,
+        balances,
+        message,
+        claims,
+    )
 }

@@ -93,7 +93,7 @@ fn make(
     call_files::call(
         call.kind,
         s,
-        call.limits,
+        call.lists,
         calendar,
         tables,
         book,
@@ -252,7 +252,7 @@ fn try_all(
             left,
         );
         totals = counted(totals, index, d);
-        at = call.next;
+        at = call.lists.next;
         place = expected.next;
         index += 1;
     }

@@ -1,4 +1,4 @@
--- The limits lent are as many of the 16 words as the file has.
+-- The limits and the pieces lent are as many of the 32 words each as the file has.
 use mathlib.Core.Path.{sym}
 use lib.Seq.{length-take-le}
 use borrow.Author.Needs.{needs}
@@ -11,11 +11,23 @@ cast-least c = search needs
 least-requires : tie.Need-least-requires
 least-requires c κs = search needs
 
+cast-least-2 : tie.Need-cast-least-2
+cast-least-2 c = search needs
+
+least-requires-2 : tie.Need-least-requires-2
+least-requires-2 c κs = search needs
+
 array-borrow-prefix-limits : tie.Need-array-borrow-prefix-limits
 array-borrow-prefix-limits c = search needs
 
 slice-aggregate-lend : tie.Need-slice-aggregate-lend
-slice-aggregate-lend c = sym (length-take-le _ _ (c .before .least .ensures .1))
+slice-aggregate-lend c = sym (length-take-le _ _ (c .before .before .before .least .ensures .1))
+
+array-borrow-prefix-pieces : tie.Need-array-borrow-prefix-pieces
+array-borrow-prefix-pieces c = search needs
+
+slice-aggregate-lend-2 : tie.Need-slice-aggregate-lend-2
+slice-aggregate-lend-2 c = sym (length-take-le _ _ (c .before .before .least2 .ensures .1))
 
 lend-requires : tie.Need-lend-requires
 lend-requires c κs = search needs
@@ -35,8 +47,12 @@ lent-transfer-spec =
     (tie.spec
     cast-least
     least-requires
+    cast-least-2
+    least-requires-2
     array-borrow-prefix-limits
     slice-aggregate-lend
+    array-borrow-prefix-pieces
+    slice-aggregate-lend-2
     lend-requires
     same-length
     same-length-2
