@@ -1,6 +1,6 @@
 """Document 01's cases that no theorem states, its mistakes to rule out, the fail, interim, repo and lending examples of source document 001
-(Clearing Memo 278), Attachment II, and the edges of the rules of interim claims, of pools that pay late, of repos beside loans and of date
-limits, by the reference.
+(Clearing Memo 278), Attachment II, and the edges of the rules of interim claims, of pools that pay late, of repos beside loans, of date
+limits and of minimum pieces, by the reference.
 
     python3 case_runs.py REFERENCE_FOLDER STEPS_FILE
 
@@ -46,10 +46,10 @@ class Run:
             if par:
                 print(" repo" if w >= cards.REPO_AT else " lent", w // 256 % 16, w // 16 % 16, w % 16, par)
 
-    def save(self, day, words):
+    def save(self, day, words, count=0):
         """A saved book with these words from here on."""
         self.both = None
-        steps.set_book(day, 0, [words.get(w, 0) for w in range(rules.words)])
+        steps.set_book(day, count, [words.get(w, 0) for w in range(rules.words)])
 
     def made(self, name, result, tallied, *arguments):
         """Shows what a call gave, which the tally's form of it has to give on the same arguments."""
@@ -58,11 +58,11 @@ class Run:
             self.both.check_owed()
         self.show(name, result)
 
-    def transfer(self, name, *fields, room=ROOM, limits=None, **more):
-        """A transfer, in the form with limits where some are given."""
-        step, message = "%s-%s" % (self.name, name), mk.transfer(*fields, **more)
-        result = steps.transfer(step, message, room) if limits is None else steps.transfer_with_limits(step, limits, message, room)
-        self.made(name, result, cards.Both.transfer, message, step_files.pattern(room), limits)
+    def transfer(self, name, *fields, room=ROOM, limits=None, pieces=None, **more):
+        """A transfer, in the form with limits where some are given, with ones as pieces where no others are."""
+        message = mk.transfer(*fields, **more)
+        result = steps.transfer("%s-%s" % (self.name, name), message, room, limits, pieces)
+        self.made(name, result, cards.Both.transfer, message, step_files.pattern(room), limits, pieces)
 
     def close(self, name, room=ROOM):
         result = steps.close("%s-%s" % (self.name, name), mk.close(), room)
@@ -322,6 +322,77 @@ def limits_by_security():
             run.transfer("%s-%s" % (security, name), X, Y, s, 100_000, contract=20221230, limits=limits)
 
 
+def pieces():
+    """Minimum pieces on a history whose list changes from call to call: par on and off the piece with each code, the whole balance of each
+    tracking and all that is near it, each security by its own piece, lists that break a rule, and other causes beside them."""
+    rows = [mk.cases_row(4), mk.cases_row(5)]
+    run = Run("pieces", 20230428, mk.tables_of({s: mk.security(3, 1, rows) for s in (0, 3)}))
+    ones, thousand = step_files.ONES, [1_000] + step_files.ONES[1:]
+
+    def sent(name, par, code=0, pieces=thousand, security=0, back=False, **more):
+        run.transfer(name, *((2, 1) if back else (1, 2)), security, par, code, pieces=pieces, **more)
+
+    sent("on", 200_000, contract=20230315)
+    sent("off", 200_500, contract=20230315)
+    sent("off-with-ones", 200_500, pieces=ones, contract=20230315)
+    for code in range(1, rules.last_code + 1):
+        sent("code-%d-off" % code, 1_500, code)
+        sent("code-%d-off-back" % code, 1_500, code, back=True)
+    for (name, start), (_, other) in zip(TRACKINGS, reversed(TRACKINGS)):
+        sent(name + "-lent-off", 40_500, start, pieces=ones)
+        sent(name + "-increase-of-the-whole-balance", 40_500, start)
+        sent(name + "-of-the-whole-balance-without-a-code", 40_500, back=True)
+        sent(name + "-return-the-other-way", 40_500, start + 2)
+        sent(name + "-return-of-the-other-tracking", 40_500, other + 2, back=True)
+        for par in (500, 40_499, 40_501, 41_000, 41_500):
+            sent("%s-return-%d" % (name, par), par, start + 2, back=True)
+        sent(name + "-return-40000", 40_000, start + 2, back=True)
+        sent(name + "-increase-beside-500", 2_000, start)
+        sent(name + "-return-of-the-rest", 2_500, start + 2, back=True)
+        for step in (1, 2, 5):
+            sent("%s-lent-off-%d" % (name, step), 40_500, start, pieces=ones)
+            sent("%s-whole-balance-by-code-%d" % (name, start + step), 40_500, start + step, back=True)
+        sent(name + "-held-over-the-close", 1_500, start, pieces=ones)
+    by_security = [1_000] + ones[1:3] + [7] + ones[4:]
+    for security, par in ((0, 7_000), (0, 7), (0, 1_000), (3, 7_000), (3, 7), (3, 1_000)):
+        sent("security-%d-par-%d" % (security, par), par, pieces=by_security, security=security)
+    for piece in (2, 3, 5, 1_000_000):
+        sent("999999-in-pieces-of-%d" % piece, 999_999, pieces=[piece] * 16)
+    sent("1000000-in-pieces-of-1000000", 1_000_000, pieces=[1_000_000] * 16)
+    for i, broken in enumerate(step_files.BROKEN_PIECES):
+        sent("broken-%d" % i, 200_000, pieces=broken)
+    for name, start in TRACKINGS:
+        sent(name + "-with-a-broken-list", 5_000, start, pieces=step_files.BROKEN_PIECES[0])
+    pieces_beside_other_causes(run, sent, thousand)
+
+
+def pieces_beside_other_causes(run, sent, thousand):
+    """Limits and pieces together, then causes that come before 13 and 14 and behind them."""
+    bad, published = step_files.BROKEN_PIECES[1], step_files.PUBLISHED
+    sent("with-limits-on", 200_000, limits=published, contract=20230315)
+    sent("with-limits-off", 200_500, limits=published, contract=20230315)
+    sent("bad-limits", 200_500, limits=step_files.BROKEN[0])
+    sent("bad-limits-and-bad-list", 200_000, limits=step_files.BROKEN[0], pieces=bad)
+    sent("good-limits-and-bad-list", 200_000, limits=published, pieces=bad)
+    sent("broken-number-of-another-security", 200_000, pieces=thousand[:3] + [0] + thousand[4:])
+    sent("off-with-class-1", 200_500, klass=1, contract=20230315)
+    sent("off-with-a-later-contract-date", 200_500, contract=20230501)
+    sent("off-with-an-unused-security", 200_500, pieces=[1_000] * 16, security=1)
+    sent("off-without-room", 200_500, contract=20230315, room=0)
+    sent("on-without-room", 200_000, contract=20230315, room=0)
+    run.close("close-over-a-record-date")
+    run.save(20230404, {18: 8_999_999_900}, 4_294_967_295)
+    sent("off-with-a-full-count", 200_500)
+    run.save(20230404, {18: 8_999_999_900})
+    sent("past-the-limit-off", 1_500, 1)
+    sent("past-the-limit-on", 1_000, 1)
+    run.save(20230401, {})
+    sent("bad-list-on-a-closed-day", 200_000, pieces=bad)
+    sent("off-on-a-closed-day", 200_500)
+    steps.set_tables(CALENDAR, [5] + steps.tables[1:])
+    sent("bad-list-and-bad-tables", 200_000, pieces=bad)
+
+
 document_cases()
 mistakes()
 memo_fails()
@@ -333,4 +404,5 @@ memo_balances("repo", 7, 40_000)
 repos()
 limits_on_the_cases()
 limits_by_security()
+pieces()
 steps.write(sys.argv[2])

@@ -28,12 +28,8 @@ def opening(name, day):
     show(name, steps.open(name, day))
 
 
-def transfer(name, room, *fields, **more):
-    show(name, steps.transfer(name, mk.transfer(*fields, **more), room))
-
-
-def transfer_with_limits(name, limits, room, *fields, **more):
-    show(name, steps.transfer_with_limits(name, limits, mk.transfer(*fields, **more), room))
+def transfer(name, room, *fields, limits=None, pieces=None, **more):
+    show(name, steps.transfer(name, mk.transfer(*fields, **more), room, limits, pieces))
 
 
 def close(name, room):
@@ -63,6 +59,22 @@ def limits(name, start, code):
         close("%sbalance-%s" % (name, which), 0)
 
 
+def pieces():
+    """The largest pieces: par at its limit, a balance that one transfer can just clear, a balance at the limit, the last security."""
+    steps.set_book(20230403, 0, balances_of((0, 1, 2, 99_999_999), (15, 15, 14, LIMIT)))
+    largest = [1_000_000] * 16
+    transfer("largest-par-in-the-largest-pieces", 35, 3, 4, 0, 100_000_000, contract=20230331, pieces=largest)
+    transfer("largest-par-but-one-off-the-largest-pieces", 35, 3, 4, 0, 99_999_999, contract=20230331, pieces=largest)
+    transfer("largest-par-off-its-piece", 35, 3, 4, 0, 100_000_000, contract=20230331, pieces=[999_983] * 16)
+    transfer("smallest-par-off-the-last-piece", 35, 3, 4, 15, 1, contract=20230331, pieces=[1] * 15 + [1_000_000])
+    transfer("smallest-par-beside-the-last-piece", 35, 3, 4, 0, 1, contract=20230331, pieces=[1] * 15 + [1_000_000])
+    transfer("smallest-par-beside-the-first-piece", 35, 3, 4, 15, 1, contract=20230331, pieces=[1_000_000] + [1] * 15)
+    transfer("return-from-the-limit-off-its-piece", 0, 14, 15, 15, 100_000_000, 3, pieces=[999_983] * 16)
+    transfer("return-from-the-limit-on-its-piece", 0, 14, 15, 15, 99_998_300, 3, pieces=[999_983] * 16)
+    transfer("return-of-the-whole-balance-off-its-piece", 0, 2, 1, 0, 99_999_999, 3, pieces=largest)
+    transfer("return-of-nothing-left-off-its-piece", 0, 2, 1, 0, 99_999_999, 3, pieces=largest)
+
+
 def largest_amounts():
     """Balances at the limit, factors at the limit, the count at its end."""
     row = ref.Row(20230401, 20230401, 20230415, FACTOR, FACTOR, 0, 0)
@@ -76,6 +88,7 @@ def largest_amounts():
     transfer("last-transfer-number", 35, 3, 4, 0, 1, contract=20230331)
     transfer("no-transfer-number-left", 35, 3, 4, 0, 1, contract=20230331)
     close("close-with-the-count-at-its-end", 0)
+    pieces()
     steps.set_book(20230404, 7, [2 ** 64 - 1] * rules.words)
     transfer("largest-words", 0, 1, 2, 0, 1)
     opening("opening-over-the-largest-words", 20230404)
@@ -178,7 +191,7 @@ def date_limits():
     steps.set_book(20240220, 0, balances_of())
 
     def fail(name, numbers, room, security=0):
-        transfer_with_limits(name, numbers, room, 0, 15, security, 100_000_000, contract=20240101)
+        transfer(name, room, 0, 15, security, 100_000_000, contract=20240101, limits=numbers)
 
     for security, name, before, behind, most in ((0, "mbs", (), (1, 1, 1, 1), 16), (1, "annual", (1, 16, 16, 16), (), 16),
                                                  (2, "late", (), (16, 16, 16, 16), 1)):

@@ -2,12 +2,12 @@
 
     python3 pick_calls.py REFERENCE_FOLDER SEED COUNT FOLDER
 
-makes random calls by the reference's make_calls.py, some of them once more with half a book or with other limits, and writes COUNT of them
-to FOLDER/calls.in, with what they should give in FOLDER/calls.expected (the format is that of make_calls.py;
-crates/call_files/src/entries.rt reads it). It takes first calls that show what is wanted (step_files.wanted, REPOS and LIMITS), always the
-one that shows most of what is left, then likewise calls that show all answers to each kind of call and all parts of wrong length, then
-others in their order, those with claims first; none with a large claim buffer. It prints what the calls cover, and fails where something
-that is wanted is missing.
+makes random calls by the reference's make_calls.py, some of them once more with half a book, with other limits or with other pieces, and
+writes COUNT of them to FOLDER/calls.in, with what they should give in FOLDER/calls.expected (the format is that of make_calls.py;
+crates/call_files/src/entries.rt reads it). It takes first calls that show what is wanted (step_files.wanted, REPOS, LIMITS and PIECES),
+always the one that shows most of what is left, then likewise calls that show all answers to each kind of call and all parts of wrong
+length, then others in their order, those with claims first; none with a large claim buffer. It prints what the calls cover, and fails where
+something that is wanted is missing.
 """
 import collections
 import os
@@ -18,9 +18,9 @@ import step_files
 folder, seed, count, out = sys.argv[1], sys.argv[2], int(sys.argv[3]), sys.argv[4]
 ref, cards, make_calls = step_files.reference_modules(folder, "reference", "cards", "make_calls")
 
-CALLS = ("open", "transfer", "close", "transfer with limits", "carry over", "set a mark", "go back to a mark", "forecast", "explain",
+CALLS = ("open", "transfer", "close", "transfer with lists", "carry over", "set a mark", "go back to a mark", "forecast", "explain",
          "transfer on one of several books", "close on one of several books")
-ONE_BOOK, WITH_LIMITS = (0, 1, 2, 3), 3
+ONE_BOOK, WITH_LISTS = (0, 1, 2, 3), 3
 NUMBERS = step_files.in_force(step_files.ANSWERS)
 # What calls show of the words of repos: repo_facts.
 REPOS = {("repos", "cleared", "open")} | {("repos", "half a book", call) for call in CALLS[:4]} | {
@@ -32,7 +32,14 @@ LIMITS = {("limits", "broken", *limits) for limits in step_files.BROKEN} | {("li
     "12 before 4", "3 before 12", "12 with a loan code", "loan code", "monthly above MBS", "one", "sixteen", "cut among more",
     "cut among fewer")} | {("limits", fact, name) for fact in ("its own", "more", "fewer") for name in SECURITIES} - {
     ("limits", "fewer", "annual")} | {("limits", "type", n) for n in range(1, 5)}
-WANTED = step_files.wanted(NUMBERS) | REPOS | LIMITS
+DECREASES = (2, 3, 6, 8, 9, 12)
+# What calls show of pieces: piece_facts.
+PIECES = {("pieces", "broken", *pieces) for pieces in step_files.BROKEN_PIECES} | {("pieces", name) for name in (
+    "3 before 13", "12 before 13", "13 before 4", "13 with a loan code", "11 before 14", "14 before 7", "14 before 8", "14 before 10",
+    "its own", "with limits", "without limits", "one less", "one more", "an increase of the balance", "the other tracking's balance",
+    "the balance the other way", "left off a multiple", "largest")} | {("pieces", "off", code) for code in range(13)} | {
+    ("pieces", "cleared", code) for code in DECREASES} | {("pieces", "edit before 14", n) for n in (132, 133, 135, 138, 139)}
+WANTED = step_files.wanted(NUMBERS) | REPOS | LIMITS | PIECES
 LARGEST_BUFFER = 4096
 CANDIDATES = 40 * count
 LENGTHS = {"calendar": 480, "tables": 1824, "balances": cards.Rules(step_files.CARDS).words, "limits": 5, "pieces": 16}
@@ -114,6 +121,58 @@ def limit_facts(call, result, answer) -> set:
     return facts
 
 
+def place_of(transfer, code) -> int:
+    """The word of the balances that a code takes from or adds to, with the transfer's accounts and security."""
+    lender, borrower = (transfer.receiver, transfer.sender) if code in DECREASES else (transfer.sender, transfer.receiver)
+    return (step_files.REPO_AT if code > 6 else 0) + ref.place(transfer.security, lender, borrower)
+
+
+def off_facts(call, transfer) -> set:
+    """What a transfer that is refused for its par shows: its code, and what balance it is like."""
+    facts, own, par = {("pieces", "off", transfer.code)}, call["balances"], transfer.par
+    other = transfer.code - 6 if transfer.code > 6 else transfer.code + 6
+    back = transfer._replace(sender=transfer.receiver, receiver=transfer.sender)
+    if transfer.code in DECREASES:
+        held = own[place_of(transfer, transfer.code)]
+        shown = {"one less": par == held - 1, "one more": held and par == held + 1,
+                 "the other tracking's balance": par == own[place_of(transfer, other)],
+                 "the balance the other way": par == own[place_of(back, transfer.code)]}
+    else:
+        shown = {"an increase of the balance": transfer.code and par == own[place_of(transfer, transfer.code)]}
+    return facts | {("pieces", name) for name, holds in shown.items() if holds}
+
+
+def taken_facts(call, transfer, answer) -> set:
+    """What an accepted transfer shows of its pieces."""
+    pieces, own = call["pieces"], call["balances"]
+    piece, facts = pieces[transfer.security], set()
+    if transfer.par % piece:
+        facts |= {("pieces", "cleared", transfer.code)}
+    elif transfer.code in DECREASES and (own[place_of(transfer, transfer.code)] - transfer.par) % piece:
+        facts |= {("pieces", "left off a multiple")}
+    others = {n for s, n in enumerate(pieces) if s != transfer.security}
+    shown = {"its own": all(answer(pieces=[n] * 16) == 14 for n in others), "largest": piece == 1_000_000 and not transfer.par % piece}
+    return facts | {("pieces", name) for name, holds in shown.items() if holds}
+
+
+def piece_facts(call, result, answer) -> set:
+    """What a transfer that is lent pieces shows of them. answer: its number with other arguments."""
+    number, transfer, rules = result.number, ref.read_record(ref.TRANSFER, call["message"])[1], cards.Rules(step_files.CARDS)
+    bad, rest, facts = rules.bad_pieces(call["pieces"]), answer(pieces=step_files.ONES), set()
+    if bad and number in (3, 12):
+        facts.add(("pieces", "%d before 13" % number))
+    if number == 13:
+        facts |= {("pieces", "broken", *call["pieces"])} if call["pieces"] in step_files.BROKEN_PIECES else set()
+        facts |= {("pieces", "13 before 4")} if rest == 4 else set()
+        facts |= {("pieces", "13 with a loan code")} if rest == 0 and transfer.code else set()
+    if number == 14:
+        facts |= off_facts(call, transfer) | {("pieces", "14 before %d" % rest)}
+        facts.add(("pieces", "without limits" if call["limits"] is None else "with limits"))
+    if not bad and number in (11, 132, 133, 135, 138, 139) and transfer.par % call["pieces"][transfer.security]:
+        facts.add(("pieces", "11 before 14") if number == 11 else ("pieces", "edit before 14", number))
+    return facts | (taken_facts(call, transfer, answer) if number == 0 else set())
+
+
 def shown(call, result) -> set:
     """What a call shows."""
     claims = [(claim.claim_type, claim.outcome, claim.slot) for claim in ref.read_claims(result.buffer, result.claims)]
@@ -124,21 +183,59 @@ def shown(call, result) -> set:
 
     if call["kind"] in ONE_BOOK:
         facts |= repo_facts(call, result)
-    if call["kind"] in (1, WITH_LIMITS):
+    if call["kind"] in (1, WITH_LISTS):
         facts |= step_files.transfer_facts(ref, cards, call, result, answer)
     if call["kind"] == 2:
         facts |= step_files.close_facts(ref, cards, call, result, answer)
-    if call["kind"] == WITH_LIMITS and call["limits"] is not None:
-        facts |= limit_facts(call, result, answer)
+    if call["kind"] == WITH_LISTS:
+        facts |= limit_facts(call, result, answer) if call["limits"] is not None else set()
+        facts |= piece_facts(call, result, answer)
     if result.claims:
         facts.add(("buffer", CALLS[call["kind"]], min(2, len(result.buffer) - 35 * result.claims)))
     return facts
 
 
+def not_dividing(par) -> int:
+    """The smallest piece that a par is no multiple of."""
+    return next(n for n in range(2, 1_000_001) if par % n)
+
+
+def other_pieces(call, transfer):
+    """A transfer with pieces that its par is off, with pieces of all other securities that it is off, and pars about a balance that it takes
+    from or adds to, off the piece."""
+    def lent(par, **more):
+        changed = transfer._replace(par=par, **more)
+        message = ref.record_bytes(changed)
+        pieces = [not_dividing(par) if s == changed.security else 1 for s in range(16)]
+        return dict(call, kind=WITH_LISTS, message=message, pieces=pieces)
+
+    yield lent(transfer.par)
+    yield dict(lent(transfer.par), pieces=[1 if s == transfer.security else not_dividing(transfer.par) for s in range(16)])
+    held = call["balances"][place_of(transfer, transfer.code)] if transfer.code else 0
+    if not 1 < held < 100_000_000:
+        return
+    for par in (held, held - 1, held + 1):
+        yield lent(par)
+    yield lent(held, code=transfer.code - 6 if transfer.code > 6 else transfer.code + 6)
+    yield lent(held, sender=transfer.receiver, receiver=transfer.sender)
+
+
+def other_lists(call, transfer):
+    """A transfer with more or fewer dates than the published ones, and room for their claims; then with other pieces."""
+    for limits in (MORE, FEWER, [16] * 5):
+        yield dict(call, kind=WITH_LISTS, limits=limits, pieces=call["pieces"] or step_files.ONES,
+                   buffer=step_files.pattern(16 * ref.CLAIM_SIZE))
+    yield from other_pieces(call, transfer)
+
+
+def list_facts(call, result) -> set:
+    """What a call shows of limits and pieces."""
+    return {fact for fact in shown(call, result) if fact[0] in ("limits", "pieces")}
+
+
 def candidates():
-    """Random calls. Once more come the first accepted one of each kind with half a book, the first accepted transfer with limits with lists
-    that break one rule, and accepted transfers with more or fewer dates than the published ones, and room for their claims, that show
-    something of limits that none of these before them shows."""
+    """Random calls. Once more come the first accepted one of each kind with half a book, the first accepted transfer with lists with lists
+    that break one rule, and accepted transfers with other lists that show something of them that none of these before them shows."""
     accepted, facts = set(), set()
     for i in range(CANDIDATES):
         call = make_calls.call_of(seed, i, step_files.CARDS)
@@ -149,11 +246,10 @@ def candidates():
         if kind not in accepted:
             accepted.add(kind)
             yield dict(call, balances=call["balances"][:step_files.REPO_AT])
-            for limits in step_files.BROKEN if kind == WITH_LIMITS else ():
-                yield dict(call, limits=limits)
-        for limits in (MORE, FEWER, [16] * 5) if kind in (1, WITH_LIMITS) else ():
-            again = dict(call, kind=WITH_LIMITS, limits=limits, buffer=step_files.pattern(16 * ref.CLAIM_SIZE))
-            more = accepted_facts(again, ref.read_record(ref.TRANSFER, call["message"])[1]) - facts
+            for name, lists in (("limits", step_files.BROKEN), ("pieces", step_files.BROKEN_PIECES)) if kind == WITH_LISTS else ():
+                yield from (dict(call, **{name: numbers}) for numbers in lists)
+        for again in other_lists(call, ref.read_record(ref.TRANSFER, call["message"])[1]) if kind in (1, WITH_LISTS) else ():
+            more = list_facts(again, make_calls.run(again)) - facts
             facts |= more
             if more:
                 yield again

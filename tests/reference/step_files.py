@@ -8,9 +8,9 @@ import os
 import struct
 import sys
 
-CARDS = 5                       # the last of document 02's cards in force that changes an answer
+CARDS = 6                       # the last of document 02's cards in force that changes an answer
 # The kinds of steps: the calls, as in files of calls, and what sets calendar and tables or the book.
-OPEN, TRANSFER, CLOSE, TRANSFER_WITH_LIMITS = range(4)
+OPEN, TRANSFER, CLOSE, LENT_TRANSFER = range(4)
 TABLES, BOOK = 128, 129
 MODULUS = 4294967291
 REPO_AT = 4096                  # the first word of repos
@@ -19,6 +19,11 @@ REPO_AT = 4096                  # the first word of repos
 PUBLISHED = [7, 6, 3, 2, 1]
 BROKEN = ([], [7, 6, 3, 2], [7, 6, 3, 2, 1, 1], [0, 6, 3, 2, 1], [7, 6, 3, 2, 0], [17, 6, 3, 2, 1], [7, 17, 3, 2, 1], [7, 6, 7, 2, 1],
           [7, 6, 3, 4, 1], [7, 6, 3, 2, 3])
+# Pieces: those of a transfer that is lent no others, and lists that break one rule each: the length, the range in front, within and at the
+# end.
+ONES = [1] * 16
+BROKEN_PIECES = ([], [1] * 15, [1] * 17, [0] + [1] * 15, [1] * 8 + [0] + [1] * 7, [1] * 15 + [0], [1_000_001] + [1] * 15,
+                 [1] * 15 + [2 ** 32 - 1])
 
 # The answers, and what else the stored data show, each with the card that brings it; 0 is document 01.
 ANSWERS = {n: 0 for n in (*range(12), 132, 133, 135, 138, 139)} | {
@@ -166,6 +171,11 @@ def pattern(length: int) -> bytes:
     return bytes(i % 251 for i in range(length))
 
 
+def list_bytes(numbers) -> bytes:
+    """A list that a transfer is lent; None is the form without limits."""
+    return struct.pack("<I", 2 ** 32 - 1) if numbers is None else struct.pack("<I%dI" % len(numbers), len(numbers), *numbers)
+
+
 def checksum(numbers) -> int:
     total = 0
     for n in numbers:
@@ -211,7 +221,7 @@ class Steps:
         self.book, self.balances = ref.Book(0, 0), [0] * rules.words
 
     def add(self, kind: int, name: str, message: bytes, room: int = 0, lent: bytes = b"") -> None:
-        """A step, with the bytes of what a call of its kind alone is lent behind it."""
+        """A step, with the bytes of the lists that a call of its kind alone is lent behind it."""
         self.steps.append(struct.pack("<BB", kind, len(name)) + name.encode()
                           + struct.pack("<I", len(message)) + message + struct.pack("<I", room) + lent)
 
@@ -237,13 +247,14 @@ class Steps:
         result = self.rules.open(self.calendar, self.tables, day, self.balances)
         return result if result.number else self.done(result)
 
-    def transfer(self, name: str, message: bytes, room: int):
-        self.add(TRANSFER, name, message, room)
-        return self.done(self.rules.transfer(self.calendar, self.tables, self.book, self.balances, message, pattern(room)))
-
-    def transfer_with_limits(self, name: str, limits, message: bytes, room: int):
-        self.add(TRANSFER_WITH_LIMITS, name, message, room, struct.pack("<I%dI" % len(limits), len(limits), *limits))
-        return self.done(self.rules.transfer(self.calendar, self.tables, self.book, self.balances, message, pattern(room), limits=limits))
+    def transfer(self, name: str, message: bytes, room: int, limits=None, pieces=None):
+        """A transfer; with neither limits nor pieces it is lent ones."""
+        if limits is None and pieces is None:
+            self.add(TRANSFER, name, message, room)
+        else:
+            self.add(LENT_TRANSFER, name, message, room, list_bytes(limits) + list_bytes(ONES if pieces is None else pieces))
+        return self.done(self.rules.transfer(self.calendar, self.tables, self.book, self.balances, message, pattern(room), limits=limits,
+                                             pieces=pieces))
 
     def close(self, name: str, message: bytes, room: int):
         self.add(CLOSE, name, message, room)

@@ -1,8 +1,8 @@
 // Files of single calls and of what they should give: an entry for each call, one after another, in the same order in both files.
 // An entry of the calls: the call in a byte (0 open, 1 transfer with ones as pieces, 2 close, 3 transfer that is lent lists); the number of
 // calendar words in four bytes and the words; the tables likewise; balances; day and count; the length of the message in four bytes and the
-// message; the claim buffer likewise; of a transfer that is lent lists the limits and then the pieces, each as the calendar, or 4294967295
-// in four bytes where it is not lent.
+// message; the claim buffer likewise; of a transfer that is lent lists the limits, or 4294967295 and no words in the form without them, and
+// the pieces.
 // An entry of what they give: the number in two bytes; day, count and claims in four each; balances; the claim buffer.
 // Balances: how many words in four bytes, how many of them are not zero in four, and for each of these its place and its par.
 use crate::Lists;

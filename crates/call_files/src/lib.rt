@@ -14,7 +14,7 @@ pub mod steps;
 // The kind of a transfer that is lent lists of the file: limits, or none of them, and pieces.
 const LENT_TRANSFER: u8 = 3;
 
-// The length of a list that is not lent.
+// The length that stands for limits that are not lent.
 const NOT_LENT: u32 = 4294967295;
 
 // A list of a call: whether it is lent, where its numbers stand, and how many there are.

@@ -2,9 +2,9 @@
 // A file is its number of steps in four bytes, then the steps. A step is its kind in a byte, the length of its name in a byte, the
 // name, the length of its message in four bytes, the message, and the length of its claim buffer in four bytes. Kinds: 0 opens a book
 // (message: the day), 1 is a transfer with ones as pieces, 2 a close, 3 a transfer that is lent lists (behind the length of its claim buffer
-// the number of limits and each of them, in four bytes, or 4294967295 for none; then the pieces likewise), 128 sets calendar and tables
-// (message: their words), 129 sets the book (message: day, count, how many balances are not zero, and for each of these its place in four
-// bytes and its par in eight).
+// the number of limits and each of them, in four bytes, or 4294967295 and none in the form without them; then the pieces), 128 sets calendar
+// and tables (message: their words), 129 sets the book (message: day, count, how many balances are not zero, and for each of these its place
+// in four bytes and its par in eight).
 use crate::Lists;
 use crate::byte_at;
 use crate::call;

@@ -166,11 +166,11 @@ fn run_file(buffer: &mut [u8]) {
 }
 
 // The same with a whole buffer. The array is handed on by reference first, so that its elements stay out of the proofs.
-fn run_whole(buffer: &mut [u8; 262144]) {
+fn run_whole(buffer: &mut [u8; 524288]) {
     run_file(buffer);
 }
 
 fn main() {
-    let mut buffer = [0u8; 262144];
+    let mut buffer = [0u8; 524288];
     run_whole(&mut buffer);
 }

@@ -286,13 +286,13 @@ fn try_stored(calls: &mut [u8], expected: &mut [u8]) {
 }
 
 // The same with whole buffers. The arrays are handed on by reference first, so that their elements stay out of the proofs.
-fn try_whole(calls: &mut [u8; 1048576], expected: &mut [u8; 262144]) {
+fn try_whole(calls: &mut [u8; 2097152], expected: &mut [u8; 262144]) {
     try_stored(calls, expected);
 }
 
 // Tries the stored calls and writes how many agree.
 pub fn try_calls() {
-    let mut calls = [0u8; 1048576];
+    let mut calls = [0u8; 2097152];
     let mut expected = [0u8; 262144];
     try_whole(&mut calls, &mut expected);
 }
