@@ -12,6 +12,7 @@ use Rattle.lists.specs.All.{all}
 use Rattle.days.specs.Weekdays.{weekdays}
 use Rattle.securities.specs.Securities.{Row}
 use Rattle.securities.specs.Cases.{caseTables}
+use Rattle.securities.specs.Lent.{ones}
 use Rattle.claims.specs.Amounts.{ofInterest, ofPrincipal, amount, failType, outcomeOf}
 use Rattle.history.specs.Calls.{Call, close, publishedTransfer}
 use Rattle.history.specs.Results.{Answer, opened, runFrom}
@@ -42,7 +43,7 @@ found n = replicate n 170
 -- a transfer in security 0 and class 0 by its sender, receiver, tracking code, par and first line, and the size of its claim buffer
 sent : ℕ → ℕ → ℕ → ℕ → List ℕ → ℕ → Call
 sent sender receiver code par line room =
-    publishedTransfer (record {
+    publishedTransfer ones (record {
       message = (139 ∷ 0 ∷ 1 ∷ 0 ∷ sender ∷ receiver ∷ 0 ∷ 0 ∷ code ∷ (par % 256) ∷ (par / 256 % 256) ∷ (par / 65536 % 256) ∷ (par / 16777216) ∷ []) ++ (line ++ blank);
       buffer = found room;
     })

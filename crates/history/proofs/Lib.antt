@@ -10,6 +10,7 @@ pub mod Theorem
 pub mod Rows
 pub mod RepoRows
 pub mod LimitRows
+pub mod PieceRows
 pub mod Answers
 pub mod StaysSound
 pub mod Continuation
