@@ -11,21 +11,21 @@ use Rattle.lists.specs.First.{NoneApplies, numbered, appliesAt, none-applies, a
 use Rattle.days.specs.Days.{openAfter}
 use Rattle.records.specs.declared.Transfer.{Transfer}
 use Rattle.records.specs.MessageRecords.{transferKind, closeKind, transferOf, reads}
-use Rattle.tags.specs.ContractDateTag.{editCauses}
 use Rattle.book.specs.declared.Book.{Book}
 use Rattle.book.specs.Book.{InRange}
-use Rattle.book.specs.Loans.{stepOf, Change, unchanged, increase, decrease, increasing, decreasing, bySender, byReceiver, changeOf, aboveBalance, loanCauses, postingCauses}
-use Rattle.book.specs.Soundness.{tableCauses, stateCauses, bookCauses, lentCauses, lentBookCauses, openingCauses}
+use Rattle.book.specs.Loans.{stepOf, Change, unchanged, increase, decrease, increasing, decreasing, bySender, byReceiver, changeOf, aboveBalance}
+use Rattle.book.specs.Soundness.{bookCauses, openingCauses}
 use Rattle.book.proofs.Posted.{tracking-range}
 use Rattle.book.proofs.Judged.{SoundBook, sound-book, lent-none, SoundOpening, sound-opening, numbered-opening}
 use Rattle.history.specs.Calls.{Arguments, TransferArguments, Call, transfer, close, claimsOf}
-use Rattle.history.specs.Causes.{recordCauses, outOfRange, fieldCauses, countCauses, lastDayCauses, roomCauses, transferCauses, callCauses, soundCauses, causes, numberFor, openingNumber}
+use Rattle.history.specs.Causes.{outOfRange, callCauses, soundCauses, causes, numberFor, openingNumber}
+use Rattle.history.proofs.Opened.{openedCauses}
 
 -- ---- the tables' numbers
 
 pub numbered-causes : (calendar tables : List ℕ) (book : Book) (balances : List ℕ) (call : Call)
     → numbered (causes calendar tables book balances call) ≡ true
-unfolding numbered causes callCauses transferCauses soundCauses bookCauses lentBookCauses tableCauses lentCauses stateCauses recordCauses fieldCauses editCauses countCauses postingCauses loanCauses lastDayCauses roomCauses
+unfolding numbered openedCauses
 numbered-causes calendar tables book balances (transfer a) = refl
 numbered-causes calendar tables book balances (close a) = refl
 
@@ -105,7 +105,7 @@ pub record Taken (calendar tables : List ℕ) (book : Book) (balances : List ℕ
 
 pub taken : (calendar tables : List ℕ) (book : Book) (balances : List ℕ) (a : TransferArguments)
     → numberFor calendar tables book balances (transfer a) ≡ 0 → Taken calendar tables book balances a
-unfolding causes callCauses transferCauses soundCauses bookCauses lentBookCauses tableCauses lentCauses stateCauses recordCauses fieldCauses editCauses countCauses postingCauses loanCauses roomCauses appliesAt
+unfolding openedCauses appliesAt
 taken calendar tables book balances a e =
     let cs = causes calendar tables book balances (transfer a) in
     let k = none-of calendar tables book balances (transfer a) e in
@@ -128,7 +128,7 @@ pub record Closed (calendar tables : List ℕ) (book : Book) (balances : List �
 
 pub closed : (calendar tables : List ℕ) (book : Book) (balances : List ℕ) (a : Arguments)
     → numberFor calendar tables book balances (close a) ≡ 0 → Closed calendar tables book balances a
-unfolding causes callCauses transferCauses soundCauses bookCauses lentBookCauses tableCauses lentCauses stateCauses recordCauses lastDayCauses roomCauses appliesAt
+unfolding openedCauses appliesAt
 closed calendar tables book balances a e =
     let cs = causes calendar tables book balances (close a) in
     let k = none-of calendar tables book balances (close a) e in

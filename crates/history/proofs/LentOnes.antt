@@ -1,10 +1,9 @@
 -- Histories from before keep their meaning: lent ones, no call meets 13 or 14, and every list of calls runs as it did.
 use mathlib.Core.Path.{_≡_, refl, ap, sym, _∙_}
-use mathlib.Core.Bool.{Bool, true, false, not, _&&_}
-use mathlib.Core.List.{List, [], _∷_, map}
-use Prim.Native.Nat.{ℕ, zero, suc, _%_, _≤_}
+use mathlib.Core.Bool.{true, false, not}
+use mathlib.Core.List.{List, [], _∷_}
+use Prim.Native.Nat.{ℕ, zero, suc, _%_}
 use native.Mathlib.Omega.{arith}
-use lib.Dec.{eqb}
 use lib.ListN.{getD, replicate}
 use borrow.Author.Tests.{eq-eqb}
 use Rattle.lists.specs.All.{all}
@@ -12,14 +11,13 @@ use Rattle.lists.specs.First.{firstOf, appliesAt, without, first-without}
 use Rattle.records.specs.MessageRecords.{transferOf}
 use Rattle.records.specs.declared.Transfer.{Transfer}
 use Rattle.securities.specs.Lent.{fromOneTo, goodPieces, pieceOf, ones}
-use Rattle.tags.specs.ContractDateTag.{editCauses}
 use Rattle.book.specs.declared.Book.{Book}
-use Rattle.book.specs.Loans.{offPiece, loanCauses, postingCauses}
-use Rattle.book.specs.Soundness.{tableCauses, stateCauses, bookCauses, lentCauses, lentBookCauses}
+use Rattle.book.specs.Loans.{offPiece}
 use Rattle.history.specs.Calls.{Call, transfer, close, bufferOf, claimsOf}
-use Rattle.history.specs.Causes.{recordCauses, fieldCauses, countCauses, lastDayCauses, roomCauses, transferCauses, callCauses, soundCauses, causes, numberFor}
+use Rattle.history.specs.Causes.{causes, numberFor}
 use Rattle.history.specs.Results.{Run, nextBook, nextBalances, resultFor, result, run}
 use Rattle.history.specs.LentOnes.{lentOnes, numberBefore, resultBefore, runBefore, OnesMeetNeither, EveryListFromBefore}
+use Rattle.history.proofs.Opened.{openedCauses}
 
 -- ---- ones
 
@@ -47,7 +45,7 @@ on-ones balances t = rw (one-piece (t .security), eq-eqb (t .par % 1) 0 (multipl
 -- ---- neither number
 
 pub ones-clear : OnesMeetNeither
-unfolding appliesAt lentOnes causes callCauses transferCauses soundCauses bookCauses lentBookCauses tableCauses lentCauses stateCauses recordCauses fieldCauses editCauses countCauses postingCauses loanCauses lastDayCauses roomCauses
+unfolding appliesAt lentOnes openedCauses
 ones-clear calendar tables book balances (transfer a) = (ap not good-ones, on-ones balances (transferOf (a .message)))
 ones-clear calendar tables book balances (close a) = (refl, refl)
 
@@ -57,12 +55,12 @@ module _ (calendar tables : List ℕ) (book : Book) (balances : List ℕ) where
   -- without 13 and 14 the table does not look at the pieces
   same-table : (call : Call)
       → without 14 (without 13 (causes calendar tables book balances (lentOnes call))) ≡ without 14 (without 13 (causes calendar tables book balances call))
-  unfolding without lentOnes causes callCauses transferCauses soundCauses bookCauses lentBookCauses tableCauses lentCauses stateCauses recordCauses fieldCauses editCauses countCauses postingCauses loanCauses lastDayCauses roomCauses claimsOf
+  unfolding without lentOnes openedCauses claimsOf
   same-table (transfer a) = refl
   same-table (close a) = refl
 
   clear-behind : (call : Call) → appliesAt 14 (without 13 (causes calendar tables book balances (lentOnes call))) ≡ false
-  unfolding appliesAt without lentOnes causes callCauses transferCauses soundCauses bookCauses lentBookCauses tableCauses lentCauses stateCauses recordCauses fieldCauses editCauses countCauses postingCauses loanCauses lastDayCauses roomCauses
+  unfolding appliesAt without lentOnes openedCauses
   clear-behind (transfer a) = on-ones balances (transferOf (a .message))
   clear-behind (close a) = refl
 
