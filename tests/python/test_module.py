@@ -325,13 +325,14 @@ class Limits(unittest.TestCase):
 
 
 class Pieces(unittest.TestCase):
-    """Minimum pieces on the case tables: 1,000 for security 0, and 1 for the others, which are unused."""
+    """Minimum pieces on the case tables: 1,000 for security 0, and 1 for the others. Security 1 is a Treasury without payments."""
     LIMITS = array("I", [7, 6, 3, 2, 1])
     BAD = [1] * 15, [1] * 17, [0] + [1] * 15, [1] * 15 + [0], [1000001] + [1] * 15, [1] * 15 + [2 ** 32 - 1], []
 
     def setUp(self):
-        self.balances, self.pieces = claim_tracker.new_balances(), claim_tracker.new_pieces()
+        self.balances, self.pieces, self.tables = claim_tracker.new_balances(), claim_tracker.new_pieces(), TABLES[:]
         self.pieces[0] = 1000
+        self.tables[114:116] = array("I", [1, 1])
 
     def lend(self):
         """A loan of 40,500 from account 1 to account 2, which is lent ones."""
@@ -343,12 +344,12 @@ class Pieces(unittest.TestCase):
         """A call in one of its forms: its number, and the book, claims, balances and claim buffer after it."""
         balances, claims, given = self.balances[:], bytearray(b"\xaa" * room), Book(book.day, book.count)
         limits = [self.LIMITS] * form.endswith("limits")
-        done = getattr(claim_tracker, form)(CALENDAR, TABLES, *limits, given, balances, message, claims, pieces=pieces)
+        done = getattr(claim_tracker, form)(CALENDAR, self.tables, *limits, given, balances, message, claims, pieces=pieces)
         return done.number, given if form.endswith("in") else done.book, done.claims, balances, claims
 
-    def number(self, sender, receiver, code, par, *, pieces=None, book=Book(DAY), class_=0, room=35):
-        """The number of a late delivery of security 0, which each form answers. Refused, it leaves book, balances and claim buffer."""
-        message = bytes.fromhex(transfer_hex(sender, receiver, 0, class_, code, par, TAG % 20230315))
+    def number(self, sender, receiver, code, par, *, security=0, pieces=None, book=Book(DAY), class_=0, room=35):
+        """The number of a late delivery, which each form answers. Refused, it leaves book, balances and claim buffer."""
+        message = bytes.fromhex(transfer_hex(sender, receiver, security, class_, code, par, TAG % 20230315))
         pieces = self.pieces if pieces is None else array("I", pieces)
         found, *others = (self.done(form, message, pieces, book, room) for form in ("transfer", "transfer_in", "transfer_with_limits"))
         self.assertEqual(others, [found] * 2)
@@ -360,6 +361,11 @@ class Pieces(unittest.TestCase):
         for code, par, number in ((0, 200000, 0), (0, 200500, 14), (0, 1000, 0), (0, 999, 14), (0, 1001, 14), (1, 1500, 14), (1, 2000, 0),
                                   (4, 1500, 14), (5, 1500, 14), (7, 1500, 14), (7, 3000, 0), (0, 100000000, 0)):
             self.assertEqual(self.number(1, 2, code, par), number, (code, par))
+
+    def test_each_security_has_its_own(self):
+        self.pieces[1] = 7
+        for security, par, number in ((0, 1001, 14), (1, 1001, 0), (0, 1000, 0), (1, 1000, 14), (0, 7000, 0), (1, 7000, 0)):
+            self.assertEqual(self.number(1, 2, 0, par, security=security), number, (security, par))
 
     def test_whole_balance(self):
         """A decrease of exactly the whole balance, and what is beside it."""
