@@ -13,6 +13,9 @@ static const uint32_t tables[CLAIM_TRACKER_TABLE_WORDS] = {
     20230401, 20230401, 20230415, 5000000, 0, 0, 0,
     20230501, 20230501, 20230515, 5000000, 0, 0, 0};
 
+/* Any par of a security can be delivered. */
+static const uint32_t pieces[CLAIM_TRACKER_PIECE_WORDS] = {1, 1, 1, 1, 1, 1, 1, 1, 1, 1, 1, 1, 1, 1, 1, 1};
+
 /* Opens Monday to Friday; January 2000 begins on a Saturday. */
 static void open_weekdays(void) {
     static const int days[12] = {31, 28, 31, 30, 31, 30, 31, 31, 30, 31, 30, 31};
@@ -31,8 +34,8 @@ int main(void) {
     struct claim_tracker_done done = claim_tracker_open(calendar, 480, tables, 1824, balances, CLAIM_TRACKER_BALANCE_WORDS, 20230404);
     if (claim_tracker_write_transfer(message, sizeof message, fields, lines[0], lines[1]) != 0) return 1;
     if (done.number == 0)
-        done = claim_tracker_transfer(calendar, 480, tables, 1824, done.book, balances, CLAIM_TRACKER_BALANCE_WORDS,
-                                      message, sizeof message, claims, sizeof claims);
+        done = claim_tracker_transfer(calendar, 480, tables, 1824, pieces, CLAIM_TRACKER_PIECE_WORDS, done.book, balances,
+                                      CLAIM_TRACKER_BALANCE_WORDS, message, sizeof message, claims, sizeof claims);
     printf("%u %s, transfer %u\n", done.number, claim_tracker_text(done.number), done.book.count);
     for (size_t i = 0; i < done.claims; i++) {
         struct claim_tracker_claim claim = claim_tracker_read_claim(claims + CLAIM_TRACKER_CLAIM_ROOM(i), CLAIM_TRACKER_CLAIM_BYTES).claim;

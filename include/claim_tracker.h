@@ -23,6 +23,12 @@
    refused with 12. All other calls keep the published numbers:
        7, 6, 3, 2, 1
 
+   Pieces: 16 words, lent with every transfer: word s is the piece of security s, the par that it is delivered in multiples of, 1 to
+   1,000,000. Pieces of another length, or with a number outside this range, that of an unused security too, are refused with 13. A par
+   that is no multiple of its security's piece is refused with 14, whatever the tracking code is, unless the code takes from a balance
+   (2, 3, 6 on loan, 8, 9, 12 on repo) and the par is exactly the whole of it. The pieces may be others from call to call, and balances that
+   are no multiple stay. Ones refuse no par; claim_tracker_serve, and with it the program claimrun, lends sixteen ones.
+
    A book: its day, the number of its accepted transfers, and 8,192 words of balances: word 4096 * k + 256 * s + 16 * l + b is the par of
    security s that account l has lent to account b, k 0 on loan, 1 on repo, at most 9,000,000,000, and zero where l is b. Its day is open
    and an open day follows it. All of it is the caller's, who may store it and go on later.
@@ -50,7 +56,7 @@
    comment names.
 
    Threads: the library has no state of its own. Calls may run at the same time where none of them writes what another is given;
-   calendar and tables are only read and can be shared. */
+   calendar, tables, limits and pieces are only read and can be shared. */
 #ifndef CLAIM_TRACKER_H
 #define CLAIM_TRACKER_H
 
@@ -59,9 +65,9 @@
 #include <stdint.h>
 
 #define CLAIM_TRACKER_VERSION_MAJOR 1
-#define CLAIM_TRACKER_VERSION_MINOR 4
+#define CLAIM_TRACKER_VERSION_MINOR 5
 #define CLAIM_TRACKER_VERSION_PATCH 0
-#define CLAIM_TRACKER_VERSION "1.4.0"
+#define CLAIM_TRACKER_VERSION "1.5.0"
 
 /* Every function answers a number that a caller has to look at, and takes no null pointer; compilers that can, watch over both. */
 #if defined(__GNUC__)
@@ -96,6 +102,7 @@ enum {
     CLAIM_TRACKER_CALENDAR_WORDS = 480,
     CLAIM_TRACKER_TABLE_WORDS = 1824,
     CLAIM_TRACKER_LIMIT_WORDS = 5,
+    CLAIM_TRACKER_PIECE_WORDS = 16,
     CLAIM_TRACKER_BALANCE_WORDS = 8192
 };
 
@@ -119,13 +126,14 @@ enum {
 
 /* The number of a call. 0 is accepted. With any other the call is refused and leaves book, balances and buffers as they were. Where several
    apply, the one that stands first here is answered. An opening meets 1 to 4 alone, a reader 5, a writer 10; 12 is met only where limits
-   are lent. */
+   are lent, 13 and 14 only by a transfer, and by no record of a run. */
 enum claim_tracker_number {
     CLAIM_TRACKER_ACCEPTED = 0,
     CLAIM_TRACKER_WRONG_LENGTH = 1,             /* calendar, tables or balances have another number of words */
     CLAIM_TRACKER_BAD_CALENDAR = 2,             /* the calendar has a bit for a day that the month lacks */
     CLAIM_TRACKER_BAD_TABLES = 3,               /* the tables break a rule */
     CLAIM_TRACKER_BAD_LIMITS = 12,              /* the limits lent are not five, or break a rule */
+    CLAIM_TRACKER_BAD_PIECES = 13,              /* the pieces lent are not sixteen, or one is not 1 to 1,000,000 */
     CLAIM_TRACKER_BAD_BOOK = 4,                 /* the day is not open or no open day follows it; a balance is above 9,000,000,000, or an
                                                    account's with itself is not 0 */
     CLAIM_TRACKER_BAD_RECORD = 5,               /* the record is cut short, or its length or kind is not the call's */
@@ -137,6 +145,8 @@ enum claim_tracker_number {
     CLAIM_TRACKER_CONTRACT_DATE_AFTER_DAY = 138, /* the Contract Date is after the book's day */
     CLAIM_TRACKER_CONTRACT_DATE_NOT_DAY = 139,  /* class 1, and the Contract Date is not the book's day */
     CLAIM_TRACKER_COUNT_FULL = 11,              /* 4,294,967,295 transfers are accepted already */
+    CLAIM_TRACKER_OFF_PIECE = 14,               /* the par is no multiple of the security's piece, and not exactly the whole balance on
+                                                   loan, or on repo, that its code takes from */
     CLAIM_TRACKER_ABOVE_BALANCE = 7,            /* a decrease above what is on loan, or on repo, by its code */
     CLAIM_TRACKER_PAST_LIMIT = 8,               /* an increase past 9,000,000,000 on loan, or on repo, by its code */
     CLAIM_TRACKER_LAST_DAY = 9,                 /* a close, and no open day follows the day that it would go to */
@@ -250,6 +260,10 @@ static inline const char *claim_tracker_text(unsigned int number) {
         return "the transfer count is already 4,294,967,295";
     case CLAIM_TRACKER_BAD_LIMITS:
         return "the date limits have a wrong length or break a rule";
+    case CLAIM_TRACKER_BAD_PIECES:
+        return "the pieces have a wrong length or a number outside 1 to 1,000,000";
+    case CLAIM_TRACKER_OFF_PIECE:
+        return "the par is no multiple of the security's piece and does not clear the whole balance";
     case CLAIM_TRACKER_SEVERAL_TAGS:
         return "more than one Contract Date tag opens";
     case CLAIM_TRACKER_UNENDED_TAG:
@@ -351,13 +365,13 @@ struct claim_tracker_done claim_tracker_open(const uint32_t *calendar, size_t ca
                                              uint64_t *balances, size_t balance_words, uint32_t day);
 
 /* Works the transfer at the message's start: posts its par, counts it and writes its fail claims and then its interim claims from the claim
-   buffer's start; the bytes behind them stay. Refused: the number, the book given, no claims, and balances and claim buffer as they
-   were. */
+   buffer's start; the bytes behind them stay. The pieces are judged whatever the tracking code is. Refused: the number, the book given, no
+   claims, and balances and claim buffer as they were. */
 CLAIM_TRACKER_CALL CLAIM_TRACKER_NONNULL
 struct claim_tracker_done claim_tracker_transfer(const uint32_t *calendar, size_t calendar_words, const uint32_t *tables,
-                                                 size_t table_words, struct claim_tracker_book book, uint64_t *balances,
-                                                 size_t balance_words, const uint8_t *message, size_t message_bytes, uint8_t *claims,
-                                                 size_t claim_bytes);
+                                                 size_t table_words, const uint32_t *pieces, size_t piece_words,
+                                                 struct claim_tracker_book book, uint64_t *balances, size_t balance_words,
+                                                 const uint8_t *message, size_t message_bytes, uint8_t *claims, size_t claim_bytes);
 
 /* Works a transfer as claim_tracker_transfer does, with limits of the caller's in place of the published numbers. They are judged whatever
    the tracking code is. Refused: the number, the book given, no claims, and balances and claim buffer as they were. On 7, 6, 3, 2, 1 both
@@ -365,6 +379,7 @@ struct claim_tracker_done claim_tracker_transfer(const uint32_t *calendar, size_
 CLAIM_TRACKER_CALL CLAIM_TRACKER_NONNULL
 struct claim_tracker_done claim_tracker_transfer_with_limits(const uint32_t *calendar, size_t calendar_words, const uint32_t *tables,
                                                              size_t table_words, const uint32_t *limits, size_t limit_words,
+                                                             const uint32_t *pieces, size_t piece_words,
                                                              struct claim_tracker_book book, uint64_t *balances, size_t balance_words,
                                                              const uint8_t *message, size_t message_bytes, uint8_t *claims,
                                                              size_t claim_bytes);
@@ -381,9 +396,9 @@ struct claim_tracker_done claim_tracker_close(const uint32_t *calendar, size_t c
    and book, balances and claim buffer as they were. On the same values both forms give and leave the same. */
 CLAIM_TRACKER_CALL CLAIM_TRACKER_NONNULL
 struct claim_tracker_reply claim_tracker_transfer_in(const uint32_t *calendar, size_t calendar_words, const uint32_t *tables,
-                                                     size_t table_words, struct claim_tracker_book *book, uint64_t *balances,
-                                                     size_t balance_words, const uint8_t *message, size_t message_bytes, uint8_t *claims,
-                                                     size_t claim_bytes);
+                                                     size_t table_words, const uint32_t *pieces, size_t piece_words,
+                                                     struct claim_tracker_book *book, uint64_t *balances, size_t balance_words,
+                                                     const uint8_t *message, size_t message_bytes, uint8_t *claims, size_t claim_bytes);
 
 /* Works a close as claim_tracker_close does, on the caller's own book: accepted, its day moves to the next open day. Refused: the number,
    no claims, and book, balances and claim buffer as they were. On the same values both forms give and leave the same. */
@@ -399,7 +414,8 @@ struct claim_tracker_reply claim_tracker_close_in(const uint32_t *calendar, size
    written and keeps the bytes that were not worked. Once over is true it ends. Where full is true it calls again with these bytes and
    an empty output; where nothing was written either, the output is smaller than CLAIM_TRACKER_RECORD_ROOM and needs to grow. Else it
    ends if ended was true, or calls again with these bytes and those that have arrived since. However the input is cut, all that is
-   written is the same. Numbers 1 to 4: nothing is worked or written, and the book given is returned. */
+   written is the same. Its transfers have the published limits and sixteen ones as pieces: no record is answered with 12, 13 or 14.
+   Numbers 1 to 4: nothing is worked or written, and the book given is returned. */
 CLAIM_TRACKER_CALL CLAIM_TRACKER_NONNULL
 struct claim_tracker_served claim_tracker_serve(const uint32_t *calendar, size_t calendar_words, const uint32_t *tables, size_t table_words,
                                                 struct claim_tracker_book book, uint64_t *balances, size_t balance_words,

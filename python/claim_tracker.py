@@ -1,8 +1,9 @@
 """The claim tracker in Python: the calls, records and numbers of claim_tracker.h, by the shared library.
 
-Calendar, tables and limits are array('I'), balances array('Q'), buffers that a call writes to bytearray, and messages bytes; other objects
-that give such memory will do. A refused call answers its number. A wrong type, a value that its field cannot hold, a buffer that cannot be
-written to or buffers that overlap raise TypeError or ValueError, and nothing is called. FORMATS.md says what the words and bytes mean.
+Calendar, tables, limits and pieces are array('I'), balances array('Q'), buffers that a call writes to bytearray, and messages bytes; other
+objects that give such memory will do. A transfer that is given no pieces lends sixteen ones. A refused call answers its number. A wrong
+type, a value that its field cannot hold, a buffer that cannot be written to or buffers that overlap raise TypeError or ValueError, and
+nothing is called. FORMATS.md says what the words and bytes mean.
 
 The library is the file that the environment variable CLAIM_TRACKER_LIBRARY names, else libclaim_tracker.so.1 beside this module.
 """
@@ -14,7 +15,7 @@ from dataclasses import dataclass
 from enum import IntEnum
 from typing import NamedTuple
 
-__version__ = "1.4.0"
+__version__ = "1.5.0"
 
 ACCOUNTS = 16
 SECURITIES = 16
@@ -24,6 +25,7 @@ SECURITY_WORDS = 114
 CALENDAR_WORDS = 480
 TABLE_WORDS = 1824
 LIMIT_WORDS = 5
+PIECE_WORDS = 16
 BALANCE_WORDS = 8192
 TRANSFER_BYTES = 141
 CLOSE_BYTES = 4
@@ -45,6 +47,7 @@ class Number(IntEnum):
     BAD_CALENDAR = 2
     BAD_TABLES = 3
     BAD_LIMITS = 12
+    BAD_PIECES = 13
     BAD_BOOK = 4
     BAD_RECORD = 5
     BAD_FIELD = 6
@@ -54,6 +57,7 @@ class Number(IntEnum):
     CONTRACT_DATE_AFTER_DAY = 138
     CONTRACT_DATE_NOT_DAY = 139
     COUNT_FULL = 11
+    OFF_PIECE = 14
     ABOVE_BALANCE = 7
     PAST_LIMIT = 8
     LAST_DAY = 9
@@ -146,6 +150,8 @@ _TEXTS = {
     Number.NO_ROOM: "the buffer is too short for the claims or the record",
     Number.COUNT_FULL: "the transfer count is already 4,294,967,295",
     Number.BAD_LIMITS: "the date limits have a wrong length or break a rule",
+    Number.BAD_PIECES: "the pieces have a wrong length or a number outside 1 to 1,000,000",
+    Number.OFF_PIECE: "the par is no multiple of the security's piece and does not clear the whole balance",
     Number.SEVERAL_TAGS: "more than one Contract Date tag opens",
     Number.UNENDED_TAG: "a Contract Date tag without } in its line",
     Number.TAG_WITHOUT_DATE: "the Contract Date tag holds no date",
@@ -268,10 +274,10 @@ _ANSWER_READING = _struct(AnswerReading, _U16, _ANSWER)
 _LENT = (ctypes.c_void_p, _SIZE)
 _FUNCTIONS = {
     "open": (_DONE, *_LENT, *_LENT, *_LENT, _U32),
-    "transfer": (_DONE, *_LENT, *_LENT, _BOOK, *_LENT, *_LENT, *_LENT),
-    "transfer_with_limits": (_DONE, *_LENT, *_LENT, *_LENT, _BOOK, *_LENT, *_LENT, *_LENT),
+    "transfer": (_DONE, *_LENT, *_LENT, *_LENT, _BOOK, *_LENT, *_LENT, *_LENT),
+    "transfer_with_limits": (_DONE, *_LENT, *_LENT, *_LENT, *_LENT, _BOOK, *_LENT, *_LENT, *_LENT),
     "close": (_DONE, *_LENT, *_LENT, _BOOK, *_LENT, *_LENT, *_LENT),
-    "transfer_in": (_REPLY, *_LENT, *_LENT, ctypes.POINTER(_BOOK), *_LENT, *_LENT, *_LENT),
+    "transfer_in": (_REPLY, *_LENT, *_LENT, *_LENT, ctypes.POINTER(_BOOK), *_LENT, *_LENT, *_LENT),
     "close_in": (_REPLY, *_LENT, *_LENT, ctypes.POINTER(_BOOK), *_LENT, *_LENT, *_LENT),
     "serve": (_SERVED, *_LENT, *_LENT, _BOOK, *_LENT, *_LENT, _BOOL, *_LENT),
     "read_transfer": (_TRANSFER_READING, *_LENT),
@@ -397,6 +403,11 @@ def new_balances():
     return array("Q", bytes(8 * BALANCE_WORDS))
 
 
+def new_pieces():
+    """16 pieces of 1, for a caller that changes some of them."""
+    return array("I", [1]) * PIECE_WORDS
+
+
 def line(words):
     """A line of free text: these characters, and spaces behind them."""
     if not isinstance(words, str) or not words.isascii():
@@ -415,6 +426,9 @@ def read_book_file(data):
 
 
 # ---- the calls
+
+_ONES = new_pieces()
+
 
 def open(calendar, tables, balances, day):
     """Opens a book on a day: all balances become zero. Refused, with 1 to 4: day 20000101 and count 0."""
@@ -441,15 +455,17 @@ def _on_own_book(name, words, book, *arguments):
     return Reply(Number(answer.number), answer.claims)
 
 
-def transfer(calendar, tables, book, balances, message, claims):
-    """Works a transfer: posts its par and writes its fail and interim claims from the start of claims. The book given is not changed."""
-    return _by_value("transfer", {"calendar": calendar, "tables": tables}, book, balances, message, claims)
+def transfer(calendar, tables, book, balances, message, claims, *, pieces=_ONES):
+    """Works a transfer: posts its par and writes its fail and interim claims from the start of claims. The book given is not changed. The
+    pieces are those of the 16 securities, and ones where none are given."""
+    return _by_value("transfer", {"calendar": calendar, "tables": tables, "pieces": pieces}, book, balances, message, claims)
 
 
-def transfer_with_limits(calendar, tables, limits, book, balances, message, claims):
+def transfer_with_limits(calendar, tables, limits, book, balances, message, claims, *, pieces=_ONES):
     """Works a transfer with other maximum numbers of Beneficiary Dates than the published 7, 6, 3, 2, 1: those of MBS, then of monthly,
-    quarterly, semiannual and annual securities."""
-    return _by_value("transfer_with_limits", {"calendar": calendar, "tables": tables, "limits": limits}, book, balances, message, claims)
+    quarterly, semiannual and annual securities. Without pieces, ones."""
+    words = {"calendar": calendar, "tables": tables, "limits": limits, "pieces": pieces}
+    return _by_value("transfer_with_limits", words, book, balances, message, claims)
 
 
 def close(calendar, tables, book, balances, message, claims):
@@ -457,9 +473,9 @@ def close(calendar, tables, book, balances, message, claims):
     return _by_value("close", {"calendar": calendar, "tables": tables}, book, balances, message, claims)
 
 
-def transfer_in(calendar, tables, book, balances, message, claims):
-    """Works a transfer on the caller's own book, which is updated."""
-    return _on_own_book("transfer_in", {"calendar": calendar, "tables": tables}, book, balances, message, claims)
+def transfer_in(calendar, tables, book, balances, message, claims, *, pieces=_ONES):
+    """Works a transfer on the caller's own book, which is updated. Without pieces, ones."""
+    return _on_own_book("transfer_in", {"calendar": calendar, "tables": tables, "pieces": pieces}, book, balances, message, claims)
 
 
 def close_in(calendar, tables, book, balances, message, claims):
@@ -468,7 +484,7 @@ def close_in(calendar, tables, book, balances, message, claims):
 
 
 def serve(calendar, tables, book, balances, input, ended, output):
-    """Serves a run of input: works its records, each with its claims and then its answer, into the output."""
+    """Serves a run of input: works its records, each with its claims and then its answer, into the output. Its pieces are ones."""
     lent = _apart(_Lent("calendar", calendar, _U32), _Lent("tables", tables, _U32), _Lent("balances", balances, _U64, True),
                   _Lent("input", input, _U8), _Lent("output", output, _U8, True))
     if not isinstance(ended, bool):

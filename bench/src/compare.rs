@@ -2,7 +2,7 @@
 use crate::inputs::{self, World};
 use crate::random::Random;
 use crate::tracker;
-use bench::rules::{self, Book, RECORD_ROOM};
+use bench::rules::{self, Book, ONES, RECORD_ROOM, TRACKING_WORDS};
 use std::collections::BTreeMap;
 use std::fmt::Debug;
 use std::ops::RangeInclusive;
@@ -16,9 +16,14 @@ const PAID_BEHIND: &str = "fail, paid behind";
 const REPO_CLAIM: &str = "repo claim, outcome";
 const ROWS_OF_BOTH: &str = "close, rows of both";
 const REPO_TRANSFER: &str = "transfer, repo";
+const TRANSFER: &str = "transfer";
 const WITH_LIMITS: &str = "transfer with limits";
 const MORE_BY_LIMITS: &str = "limits, claims more";
 const FEWER_BY_LIMITS: &str = "limits, claims fewer";
+const CLEARED: &str = "off piece, cleared";
+const ONE_BESIDE: &str = "off piece, one beside";
+const OTHER_HALF: &str = "off piece, other half";
+const AN_INCREASE: &str = "off piece, an increase";
 
 /// How often each kind of input got each number.
 type Tally = BTreeMap<(&'static str, u16), u64>;
@@ -94,9 +99,30 @@ fn count_rows_of_both(claims: &[u8], tally: &mut Tally) {
 /// balances as they are.
 fn count_by_limits(world: &World, book: Book, balances: &mut [u64], message: &[u8], claims: usize, tally: &mut Tally) {
     let mut room = [0; 16 * CLAIM_BYTES];
-    let published = rules::transfer(&world.calendar, &world.tables, book, balances, message, &mut room).claims;
+    let published = rules::transfer(&world.calendar, &world.tables, &ONES, book, balances, message, &mut room).claims;
     let name = if claims < published { FEWER_BY_LIMITS } else { MORE_BY_LIMITS };
     *tally.entry((name, claims.abs_diff(published) as u16)).or_default() += 1;
+}
+
+/// Counts by its code a transfer whose par is no multiple of its security's piece: one that is accepted since it clears a balance, and one
+/// that gets 14 though its par is one beside the balance that it takes from, is that on the other half, or is the one that it adds to.
+fn count_off_piece(pieces: &[u32], balances: &[u64], message: &[u8], number: u16, tally: &mut Tally) {
+    let [sender, receiver, security, _, code] = [4, 5, 6, 7, 8].map(|at| message[at] as usize);
+    let par = u32::from_le_bytes([9, 10, 11, 12].map(|at| message[at]));
+    let beside = |half: usize, lender: usize, borrower: usize| {
+        let lent = balances[TRACKING_WORDS * half + 256 * security + 16 * lender + borrower];
+        lent.abs_diff(par as u64)
+    };
+    let half = (code > 6) as usize;
+    let takes = matches!(code, 2 | 3 | 6 | 8 | 9 | 12);
+    let name = match number {
+        0 if par % pieces[security] != 0 => CLEARED,
+        14 if takes && beside(half, receiver, sender) == 1 => ONE_BESIDE,
+        14 if takes && beside(1 - half, receiver, sender) == 0 => OTHER_HALF,
+        14 if !takes && code > 0 && beside(half, sender, receiver) == 0 => AN_INCREASE,
+        _ => return,
+    };
+    *tally.entry((name, code as u16)).or_default() += 1;
 }
 
 /// A call on the same book from both, again and again on what the last one left.
@@ -106,8 +132,12 @@ fn compare_calls(random: &mut Random, tally: &mut Tally) -> Result<(), String> {
     let (mut ours, mut theirs) = (world.balances.clone(), world.balances.clone());
     for _ in 0..random.pick(&[1, 1, 3, 40]) {
         let closing = random.one_in(3);
-        let message = inputs::message(random, book.day, closing);
+        let mut message = inputs::message(random, book.day, closing);
         let limits = random.one_in(2).then(|| inputs::limits(random));
+        let pieces = inputs::pieces(random);
+        if !closing && !random.one_in(8) {
+            inputs::fit_par(random, &mut message, &pieces, &ours);
+        }
         let mut our_claims = inputs::buffer(random);
         let mut their_claims = our_claims.clone();
         let World { calendar, tables, .. } = &world;
@@ -116,13 +146,15 @@ fn compare_calls(random: &mut Random, tally: &mut Tally) -> Result<(), String> {
             let rust = rules::close(calendar, tables, book, &mut theirs, &message, &mut their_claims);
             ("close", library, rust)
         } else if let Some(limits) = &limits {
-            let library = tracker::transfer_with_limits(calendar, tables, limits, book, &mut ours, &message, &mut our_claims);
-            let rust = rules::transfer_with_limits(calendar, tables, limits, book, &mut theirs, &message, &mut their_claims);
+            let library =
+                tracker::transfer_with_limits(calendar, tables, limits, &pieces, book, &mut ours, &message, &mut our_claims);
+            let rust =
+                rules::transfer_with_limits(calendar, tables, limits, &pieces, book, &mut theirs, &message, &mut their_claims);
             (WITH_LIMITS, library, rust)
         } else {
-            let library = tracker::transfer(calendar, tables, book, &mut ours, &message, &mut our_claims);
-            let rust = rules::transfer(calendar, tables, book, &mut theirs, &message, &mut their_claims);
-            ("transfer", library, rust)
+            let library = tracker::transfer(calendar, tables, &pieces, book, &mut ours, &message, &mut our_claims);
+            let rust = rules::transfer(calendar, tables, &pieces, book, &mut theirs, &message, &mut their_claims);
+            (TRANSFER, library, rust)
         };
         *tally.entry((name, library.number)).or_default() += 1;
         same("the answer", &library, &rust)?;
@@ -135,6 +167,9 @@ fn compare_calls(random: &mut Random, tally: &mut Tally) -> Result<(), String> {
             count_rows_of_both(claims, tally);
         } else if let Some(7..=12) = message.get(8) {
             *tally.entry((REPO_TRANSFER, library.number)).or_default() += 1;
+        }
+        if !closing && matches!(library.number, 0 | 14) {
+            count_off_piece(&pieces, &ours, &message, library.number, tally);
         }
         if name == WITH_LIMITS && library.number == 0 && message[8] == 0 {
             count_by_limits(&world, book, &mut theirs, &message, library.claims, tally);
@@ -188,8 +223,9 @@ fn compare_serve(random: &mut Random, tally: &mut Tally) -> Result<(), String> {
 }
 
 /// What a comparison of many inputs has to meet: a failed transfer that drops a row, one that claims a paid row behind one that waits, a repo
-/// claim, a row with claims of both types, a repo refused by its balance and by the limit, limits refused, and limits that give more claims
-/// and fewer than the published numbers.
+/// claim, a row with claims of both types, a repo refused by its balance and by the limit, limits refused, limits that give more claims
+/// and fewer than the published numbers, pieces refused, and par off the piece: refused, accepted on loan and on repo since it clears the
+/// balance, and refused for what is nearly that.
 fn judge(tally: &Tally, count: u64) -> Result<(), String> {
     const MANY: u64 = 10_000;
     const SOME: RangeInclusive<u16> = 1..=u16::MAX;
@@ -203,6 +239,15 @@ fn judge(tally: &Tally, count: u64) -> Result<(), String> {
         (WITH_LIMITS, 12..=12),
         (MORE_BY_LIMITS, SOME),
         (FEWER_BY_LIMITS, SOME),
+        (TRANSFER, 13..=13),
+        (WITH_LIMITS, 13..=13),
+        (TRANSFER, 14..=14),
+        (WITH_LIMITS, 14..=14),
+        (CLEARED, 2..=6),
+        (CLEARED, 8..=12),
+        (ONE_BESIDE, SOME),
+        (OTHER_HALF, SOME),
+        (AN_INCREASE, SOME),
     ];
     let is_met =
         |(name, numbers): &(&str, RangeInclusive<u16>)| tally.keys().any(|(kind, n)| kind == name && numbers.contains(n));

@@ -1,8 +1,9 @@
-//! Inputs: calendars, tables, balances and messages, sound and damaged.
+//! Inputs: calendars, tables, limits, pieces, balances and messages, sound and damaged.
 use crate::random::Random;
-use bench::rules::{Book, CALENDAR_WORDS, LIMIT_WORDS, PUBLISHED, TABLE_WORDS, TRACKING_WORDS};
+use bench::rules::{Book, CALENDAR_WORDS, LIMIT_WORDS, PIECE_WORDS, PUBLISHED, TABLE_WORDS, TRACKING_WORDS};
 
 pub const MOST_LENT: u64 = 9_000_000_000;
+const MOST_PAR: u64 = 100_000_000;
 
 /// Everything that the calls are given beside messages.
 #[derive(Clone)]
@@ -330,6 +331,21 @@ pub fn limits(random: &mut Random) -> Vec<u32> {
     limits
 }
 
+/// Pieces: ones, others, another length, or a number at the edge of its range.
+pub fn pieces(random: &mut Random) -> Vec<u32> {
+    let most = random.pick(&[1, 1, 1, 5, 1000, 1_000_000]);
+    let mut pieces: Vec<u32> = (0..PIECE_WORDS).map(|_| random.from(1, most) as u32).collect();
+    match random.below(16) {
+        0 => pieces.resize(random.pick(&[0, 1, 15, 17, 300]), 1),
+        1 => {
+            let at = random.place(&pieces);
+            pieces[at] = random.pick(&[0, 1, 1_000_000, 1_000_001, u32::MAX]);
+        }
+        _ => {}
+    }
+    pieces
+}
+
 const OPENER: &[u8] = b"{98A:CNTR/";
 
 /// A Contract Date, mostly not after the day.
@@ -433,6 +449,46 @@ pub fn transfer(random: &mut Random, day: u32) -> Vec<u8> {
     bytes.extend(par.to_le_bytes());
     bytes.extend(lines(random, day));
     bytes
+}
+
+/// The place of a balance that is a par, where one is near a random place.
+fn place_of_par(random: &mut Random, balances: &[u64]) -> Option<usize> {
+    let from = random.below(balances.len() as u64 + 1) as usize;
+    let near = balances[from..].iter().take(256).position(|balance| (1..=MOST_PAR).contains(balance))?;
+    Some(from + near)
+}
+
+/// Parties, security and code of a transfer that takes from a balance which is a par, and this par; or of one that adds to it or takes from
+/// the other tracking's balance.
+fn about_balance(random: &mut Random, balances: &[u64]) -> Option<([u8; 3], u8, u64)> {
+    let place = place_of_par(random, balances)?;
+    let [security, lender, borrower] = [place / 256 % 16, place / 16 % 16, place % 16].map(|part| part as u8);
+    let is_repo = (place >= TRACKING_WORDS) != random.one_in(8);
+    let takes = !random.one_in(8);
+    let parties = if takes { [borrower, lender, security] } else { [lender, borrower, security] };
+    let step = if takes { random.pick(&[2, 3, 6]) } else { random.pick(&[1, 4, 5]) };
+    Some((parties, if is_repo { step + 6 } else { step }, balances[place]))
+}
+
+/// Gives a transfer another par: a multiple of its security's piece or one beside it, or, with parties and a code for it, a balance, one
+/// beside it, or what it holds in whole pieces.
+pub fn fit_par(random: &mut Random, message: &mut [u8], pieces: &[u32], balances: &[u64]) {
+    let about = if random.one_in(4) { about_balance(random, balances) } else { None };
+    let Some([parties @ .., _, code, p0, p1, p2, p3]) = message.get_mut(4..13) else {
+        return;
+    };
+    if let Some((others, step, _)) = about {
+        parties.copy_from_slice(&others);
+        *code = step;
+    }
+    let piece = pieces.get(parties[2] as usize).map_or(1, |&piece| piece.max(1) as u64);
+    let multiple = piece * random.from(1, (MOST_PAR / piece).max(1));
+    let par = match about {
+        Some((_, _, par)) => random.pick(&[par, par, par, par + 1, par - 1, par - par % piece]),
+        None if piece > 1 => random.pick(&[multiple, multiple, multiple, multiple + 1]),
+        None => return,
+    };
+    [*p0, *p1, *p2, *p3] = (par as u32).to_le_bytes();
 }
 
 /// Damages a message: its header, its length or any byte.

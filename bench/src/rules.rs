@@ -1,8 +1,9 @@
-//! The rules of document 01, with cards 1 to 5 of document 02, in Rust: opening, transfer, close and a run of records.
+//! The rules of document 01, with cards 1 to 6 of document 02, in Rust: opening, transfer, close and a run of records.
 mod book;
 mod claims;
 mod days;
 mod limits;
+mod pieces;
 mod records;
 mod serve;
 mod tables;
@@ -10,6 +11,7 @@ mod tags;
 
 pub use book::{close, open, transfer, transfer_with_limits};
 pub use limits::PUBLISHED;
+pub use pieces::ONES;
 pub use records::answer;
 pub use serve::serve;
 
@@ -21,6 +23,9 @@ pub const TABLE_WORDS: usize = 1824;
 
 /// Words of the date limits.
 pub const LIMIT_WORDS: usize = 5;
+
+/// Words of the pieces, one for each security.
+pub const PIECE_WORDS: usize = 16;
 
 /// Words of the par on loan, 256 for each of 16 securities, and of the balances: on loan, then on repo.
 pub const TRACKING_WORDS: usize = 4096;

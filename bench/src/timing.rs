@@ -2,7 +2,7 @@
 use crate::inputs::{self, World};
 use crate::random::Random;
 use crate::tracker;
-use bench::rules::{self, BALANCE_WORDS, Book, CLAIM_ROOM, Done, Served, TABLE_WORDS};
+use bench::rules::{self, BALANCE_WORDS, Book, CLAIM_ROOM, Done, ONES, Served, TABLE_WORDS};
 use std::fs::File;
 use std::hint::black_box;
 use std::path::{Path, PathBuf};
@@ -106,6 +106,14 @@ fn transfer_message(parties: [u8; 2], security: u8, code: u8, par: u32, text: &s
 }
 
 type Call = fn(&[u32], &[u32], Book, &mut [u64], &[u8], &mut [u8]) -> Done;
+
+/// The transfers of both, which are lent ones that neither knows before it is called.
+const LIBRARY_TRANSFER: Call = |calendar, tables, book, balances, message, claims| {
+    tracker::transfer(calendar, tables, black_box(&ONES), book, balances, message, claims)
+};
+const RUST_TRANSFER: Call = |calendar, tables, book, balances, message, claims| {
+    rules::transfer(calendar, tables, black_box(&ONES), book, balances, message, claims)
+};
 
 /// Times a call by value on a full book, with each message in turn.
 fn time_call(name: &str, day: u32, library: Call, rust: Call, messages: &[Vec<u8>]) -> Result<(), String> {
@@ -263,15 +271,15 @@ pub fn run(claimrun: Option<PathBuf>) -> Result<(), String> {
     heading();
     let tag = "{98A:CNTR/20220301}";
     let fails: Vec<_> = (0..16).map(|number| transfer_message([1, 2], number, 0, 200_000, tag)).collect();
-    time_call("transfer, a fail", 20220801, tracker::transfer, rules::transfer, &fails)?;
+    time_call("transfer, a fail", 20220801, LIBRARY_TRANSFER, RUST_TRANSFER, &fails)?;
     let loans: Vec<_> =
         (0..16).flat_map(|number| [(1, [3, 4]), (3, [4, 3])].map(|(code, parties)| (number, code, parties))).collect();
     let loans: Vec<_> =
         loans.into_iter().map(|(number, code, parties)| transfer_message(parties, number, code, 100, "")).collect();
-    time_call("transfer, a loan", 20220801, tracker::transfer, rules::transfer, &loans)?;
+    time_call("transfer, a loan", 20220801, LIBRARY_TRANSFER, RUST_TRANSFER, &loans)?;
     let mut unsound = full_book(20220801);
     unsound.calendar[479] |= 1 << 31;
-    time_answer("transfer, calendar refused", &unsound, 2, tracker::transfer, rules::transfer, &loans)?;
+    time_answer("transfer, calendar refused", &unsound, 2, LIBRARY_TRANSFER, RUST_TRANSFER, &loans)?;
     let close = [vec![2, 0, 2, 0]];
     time_call("close that crosses nothing", 20220822, tracker::close, rules::close, &close)?;
     time_call("close that crosses 1 row", 20220801, tracker::close, rules::close, &close)?;

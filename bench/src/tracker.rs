@@ -21,6 +21,8 @@ mod exports {
             calendar_words: usize,
             tables: *const u32,
             table_words: usize,
+            pieces: *const u32,
+            piece_words: usize,
             book: Book,
             balances: *mut u64,
             balance_words: usize,
@@ -37,6 +39,8 @@ mod exports {
             table_words: usize,
             limits: *const u32,
             limit_words: usize,
+            pieces: *const u32,
+            piece_words: usize,
             book: Book,
             balances: *mut u64,
             balance_words: usize,
@@ -93,25 +97,23 @@ pub fn open(calendar: &[u32], tables: &[u32], balances: &mut [u64], day: u32) ->
     }
 }
 
-/// What transfer and close by value are given and give.
-type Call =
-    unsafe extern "C" fn(*const u32, usize, *const u32, usize, Book, *mut u64, usize, *const u8, usize, *mut u8, usize) -> Done;
-
-fn call(
-    call: Call,
+pub fn transfer(
     calendar: &[u32],
     tables: &[u32],
+    pieces: &[u32],
     book: Book,
     balances: &mut [u64],
     message: &[u8],
     claims: &mut [u8],
 ) -> Done {
     unsafe {
-        call(
+        exports::claim_tracker_transfer(
             calendar.as_ptr(),
             calendar.len(),
             tables.as_ptr(),
             tables.len(),
+            pieces.as_ptr(),
+            pieces.len(),
             book,
             balances.as_mut_ptr(),
             balances.len(),
@@ -123,14 +125,12 @@ fn call(
     }
 }
 
-pub fn transfer(calendar: &[u32], tables: &[u32], book: Book, balances: &mut [u64], message: &[u8], claims: &mut [u8]) -> Done {
-    call(exports::claim_tracker_transfer, calendar, tables, book, balances, message, claims)
-}
-
+#[allow(clippy::too_many_arguments)]
 pub fn transfer_with_limits(
     calendar: &[u32],
     tables: &[u32],
     limits: &[u32],
+    pieces: &[u32],
     book: Book,
     balances: &mut [u64],
     message: &[u8],
@@ -144,6 +144,8 @@ pub fn transfer_with_limits(
             tables.len(),
             limits.as_ptr(),
             limits.len(),
+            pieces.as_ptr(),
+            pieces.len(),
             book,
             balances.as_mut_ptr(),
             balances.len(),
@@ -156,7 +158,21 @@ pub fn transfer_with_limits(
 }
 
 pub fn close(calendar: &[u32], tables: &[u32], book: Book, balances: &mut [u64], message: &[u8], claims: &mut [u8]) -> Done {
-    call(exports::claim_tracker_close, calendar, tables, book, balances, message, claims)
+    unsafe {
+        exports::claim_tracker_close(
+            calendar.as_ptr(),
+            calendar.len(),
+            tables.as_ptr(),
+            tables.len(),
+            book,
+            balances.as_mut_ptr(),
+            balances.len(),
+            message.as_ptr(),
+            message.len(),
+            claims.as_mut_ptr(),
+            claims.len(),
+        )
+    }
 }
 
 pub fn serve(

@@ -1,6 +1,6 @@
 /* Makes the calls that standard input lists, one a line, and prints what each answers and leaves. tests/python makes the same calls through
-   the Python module and compares. Bytes are hex, limits have commas between them, and - is none of either; a buffer begins as bytes AA,
-   and a line ends with checksums of it and of the balances. */
+   the Python module and compares. Bytes are hex, limits and pieces have commas between them, and - is none of these; transfers are lent
+   ones until a line gives other pieces. A buffer begins as bytes AA, and a line ends with checksums of it and of the balances. */
 #define _POSIX_C_SOURCE 200809L
 #include <inttypes.h>
 #include <stdio.h>
@@ -12,8 +12,9 @@
 static uint32_t calendar[2 * CLAIM_TRACKER_CALENDAR_WORDS];
 static uint32_t tables[2 * CLAIM_TRACKER_TABLE_WORDS];
 static uint64_t balances[2 * CLAIM_TRACKER_BALANCE_WORDS];
+static uint32_t *pieces;
 static size_t calendar_words = CLAIM_TRACKER_CALENDAR_WORDS, table_words = CLAIM_TRACKER_TABLE_WORDS;
-static size_t balance_words = CLAIM_TRACKER_BALANCE_WORDS;
+static size_t balance_words = CLAIM_TRACKER_BALANCE_WORDS, piece_words;
 static struct claim_tracker_book book;
 static uint8_t *buffer;
 static size_t room;
@@ -39,9 +40,8 @@ static uint8_t *bytes(size_t *count) {
     return made;
 }
 
-/* The limits of a word, which the caller frees. */
-static uint32_t *limits_of(size_t *count) {
-    char *word = next();
+/* The limits or pieces of a word, which the caller frees. */
+static uint32_t *words_of(char *word, size_t *count) {
     uint32_t *made = malloc(sizeof *made * (strlen(word) + 1));
     *count = 0;
     if (strcmp(word, "-") == 0) return made;
@@ -88,38 +88,46 @@ static void print_left(size_t written) {
     free(buffer);
 }
 
+/* A transfer by value, with limits where they are given. */
+static struct claim_tracker_done transfer(const uint32_t *limits, size_t limit_words, const uint8_t *message, size_t count) {
+    if (limits == NULL)
+        return claim_tracker_transfer(calendar, calendar_words, tables, table_words, pieces, piece_words, book, balances, balance_words,
+                                      message, count, buffer, room);
+    return claim_tracker_transfer_with_limits(calendar, calendar_words, tables, table_words, limits, limit_words, pieces, piece_words, book,
+                                              balances, balance_words, message, count, buffer, room);
+}
+
+/* A transfer or a close on the own book. */
+static struct claim_tracker_reply on_own_book(const char *name, const uint8_t *message, size_t count) {
+    if (strcmp(name, "transfer_in") == 0)
+        return claim_tracker_transfer_in(calendar, calendar_words, tables, table_words, pieces, piece_words, &book, balances, balance_words,
+                                         message, count, buffer, room);
+    if (strcmp(name, "close_in") != 0) exit(2);
+    return claim_tracker_close_in(calendar, calendar_words, tables, table_words, &book, balances, balance_words, message, count, buffer,
+                                  room);
+}
+
 /* A transfer or a close, by value or on the own book, or a transfer with limits. */
 static void call(const char *name) {
-    uint16_t answer;
-    size_t claims, count, limit_words = 0;
-    uint32_t *limits = strcmp(name, "transfer_with_limits") == 0 ? limits_of(&limit_words) : NULL;
+    struct claim_tracker_done done;
+    size_t count, limit_words = 0;
+    uint32_t *limits = strcmp(name, "transfer_with_limits") == 0 ? words_of(next(), &limit_words) : NULL;
     new_buffer();
     uint8_t *message = bytes(&count);
-    if (limits != NULL) {
-        struct claim_tracker_done done =
-            claim_tracker_transfer_with_limits(calendar, calendar_words, tables, table_words, limits, limit_words, book, balances,
-                                               balance_words, message, count, buffer, room);
-        answer = done.number;
-        claims = done.claims;
-        book = done.book;
-    } else if (strcmp(name, "transfer") == 0 || strcmp(name, "close") == 0) {
-        struct claim_tracker_done done = (*name == 't' ? claim_tracker_transfer : claim_tracker_close)(
-            calendar, calendar_words, tables, table_words, book, balances, balance_words, message, count, buffer, room);
-        answer = done.number;
-        claims = done.claims;
-        book = done.book;
-    } else if (strcmp(name, "transfer_in") == 0 || strcmp(name, "close_in") == 0) {
-        struct claim_tracker_reply reply = (*name == 't' ? claim_tracker_transfer_in : claim_tracker_close_in)(
-            calendar, calendar_words, tables, table_words, &book, balances, balance_words, message, count, buffer, room);
-        answer = reply.number;
-        claims = reply.claims;
+    if (limits != NULL || strcmp(name, "transfer") == 0) {
+        done = transfer(limits, limit_words, message, count);
+    } else if (strcmp(name, "close") == 0) {
+        done = claim_tracker_close(calendar, calendar_words, tables, table_words, book, balances, balance_words, message, count, buffer,
+                                   room);
     } else {
-        exit(2);
+        struct claim_tracker_reply reply = on_own_book(name, message, count);
+        done = (struct claim_tracker_done){reply.number, book, reply.claims};
     }
+    book = done.book;
     free(limits);
     free(message);
-    printf("%s %u claims %zu", name, answer, claims);
-    print_left(CLAIM_TRACKER_CLAIM_ROOM(claims));
+    printf("%s %u claims %zu", name, done.number, done.claims);
+    print_left(CLAIM_TRACKER_CLAIM_ROOM(done.claims));
 }
 
 static void serve(void) {
@@ -216,6 +224,9 @@ static void put(const char *name) {
 static void work(const char *name) {
     if (strcmp(name, "calendar") == 0 || strcmp(name, "tables") == 0 || strcmp(name, "balances") == 0) {
         put(name);
+    } else if (strcmp(name, "pieces") == 0) {
+        free(pieces);
+        pieces = words_of(next(), &piece_words);
     } else if (strcmp(name, "lengths") == 0) {
         calendar_words = number();
         table_words = number();
@@ -243,9 +254,11 @@ static void work(const char *name) {
 }
 
 int main(void) {
-    char *text = NULL;
+    char ones[] = "1,1,1,1,1,1,1,1,1,1,1,1,1,1,1,1", *text = NULL;
     size_t size = 0;
+    pieces = words_of(ones, &piece_words);
     while (getline(&text, &size, stdin) > 0) work(strtok(text, " \n"));
     free(text);
+    free(pieces);
     return 0;
 }

@@ -1,6 +1,7 @@
 /* Replays document 01's hex example through the exported functions: the book opened on 20230404 with the cases' tables, the first
    case's transfer from account 1 to 2, and all bytes that come out. Then the codecs both ways, two payments that wait for their Payment
-   Dates, an interim claim, a close, refusals, both calls on the caller's own book, a repo beside a loan, date limits, and half a book. */
+   Dates, an interim claim, a close, refusals, both calls on the caller's own book, a repo beside a loan, date limits, half a book, and
+   minimum pieces. */
 #include <stdio.h>
 #include <string.h>
 
@@ -11,6 +12,8 @@ enum { WORDS = CLAIM_TRACKER_BALANCE_WORDS, REPO = 4096 }; /* REPO: the first wo
 static uint32_t calendar[CLAIM_TRACKER_CALENDAR_WORDS];
 static uint32_t tables[CLAIM_TRACKER_TABLE_WORDS];
 static uint64_t balances[WORDS];
+static const uint32_t published[CLAIM_TRACKER_LIMIT_WORDS] = {7, 6, 3, 2, 1};
+static const uint32_t ones[CLAIM_TRACKER_PIECE_WORDS] = {1, 1, 1, 1, 1, 1, 1, 1, 1, 1, 1, 1, 1, 1, 1, 1};
 
 static int passed, failed;
 
@@ -68,8 +71,100 @@ static const struct {
 
 static struct claim_tracker_done with_limits(const uint32_t *limits, size_t limit_words, struct claim_tracker_book book,
                                              const uint8_t *message, size_t message_bytes, uint8_t *claims, size_t claim_bytes) {
-    return claim_tracker_transfer_with_limits(calendar, 480, tables, 1824, limits, limit_words, book, balances, WORDS, message,
+    return claim_tracker_transfer_with_limits(calendar, 480, tables, 1824, limits, limit_words, ones, 16, book, balances, WORDS, message,
                                               message_bytes, claims, claim_bytes);
+}
+
+/* Pieces of another length, or with one number out of its range. */
+static const struct {
+    const char *name;
+    size_t words, place;
+    uint32_t piece;
+} bad_pieces[] = {
+    {"no pieces", 0, 0, 1},
+    {"fifteen pieces", 15, 0, 1},
+    {"seventeen pieces", 17, 0, 1},
+    {"a piece of 0 in front", 16, 0, 0},
+    {"a piece of 0 at the end", 16, 15, 0},
+    {"a piece of 1,000,001", 16, 7, 1000001},
+};
+
+/* Transfers in security 0, whose piece is 1,000, where account 1 has lent account 2 40,500 of it on loan and 30,500 on repo. */
+static const struct {
+    const char *name;
+    struct claim_tracker_transfer_fields fields;
+    uint16_t number;
+} by_piece[] = {
+    {"a par on the piece", {1, 2, 0, 0, CLAIM_TRACKER_CODE_NONE, 200000}, 0},
+    {"a par off the piece", {1, 2, 0, 0, CLAIM_TRACKER_CODE_NONE, 200500}, 14},
+    {"a par off the piece that is a balance", {2, 1, 0, 0, CLAIM_TRACKER_CODE_NONE, 40500}, 14},
+    {"a loan's start off the piece", {1, 2, 0, 0, CLAIM_TRACKER_CODE_SLST, 1500}, 14},
+    {"a return of the whole balance", {2, 1, 0, 0, CLAIM_TRACKER_CODE_CLSL, 40500}, 0},
+    {"a reversal of the whole balance", {2, 1, 0, 0, CLAIM_TRACKER_CODE_SLRV, 40500}, 0},
+    {"a decrease of the whole balance", {2, 1, 0, 0, CLAIM_TRACKER_CODE_ADSR, 40500}, 0},
+    {"a return of less on the piece", {2, 1, 0, 0, CLAIM_TRACKER_CODE_CLSL, 40000}, 0},
+    {"a return of less off the piece", {2, 1, 0, 0, CLAIM_TRACKER_CODE_CLSL, 500}, 14},
+    {"a return of more on the piece", {2, 1, 0, 0, CLAIM_TRACKER_CODE_CLSL, 41000}, 7},
+    {"a return of more off the piece", {2, 1, 0, 0, CLAIM_TRACKER_CODE_CLSL, 41500}, 14},
+    {"a return by the lender", {1, 2, 0, 0, CLAIM_TRACKER_CODE_CLSL, 40500}, 14},
+    {"an increase of the balance's own par", {1, 2, 0, 0, CLAIM_TRACKER_CODE_SLST, 40500}, 14},
+    {"a repo's close of a loan's balance", {2, 1, 0, 0, CLAIM_TRACKER_CODE_CLRP, 40500}, 14},
+    {"a repo's close of its whole balance", {2, 1, 0, 0, CLAIM_TRACKER_CODE_CLRP, 30500}, 0},
+    {"a loan's return of a repo's balance", {2, 1, 0, 0, CLAIM_TRACKER_CODE_CLSL, 30500}, 14},
+};
+
+/* A transfer in one of its three forms, with room for a claim. */
+static struct claim_tracker_done by_form(int form, const uint32_t *pieces, size_t piece_words, const uint8_t *message, uint8_t *claims) {
+    struct claim_tracker_book book = {20230404, 0};
+    if (form == 0)
+        return claim_tracker_transfer(calendar, 480, tables, 1824, pieces, piece_words, book, balances, WORDS, message, 141, claims, 35);
+    if (form == 1)
+        return claim_tracker_transfer_with_limits(calendar, 480, tables, 1824, published, 5, pieces, piece_words, book, balances, WORDS,
+                                                  message, 141, claims, 35);
+    struct claim_tracker_reply reply =
+        claim_tracker_transfer_in(calendar, 480, tables, 1824, pieces, piece_words, &book, balances, WORDS, message, 141, claims, 35);
+    return (struct claim_tracker_done){reply.number, book, reply.claims};
+}
+
+/* Each form answers the number for a late delivery of these fields; refused, it leaves book, balances and claim buffer. */
+static void check_pieces(const char *name, const uint32_t *pieces, size_t piece_words, struct claim_tracker_transfer_fields fields,
+                         uint16_t number) {
+    static uint64_t before[WORDS];
+    uint8_t lines[2][64], message[141], claims[35], untouched[35];
+    before[16 * 1 + 2] = 40500;
+    before[REPO + 16 * 1 + 2] = 30500;
+    memset(untouched, 0xaa, sizeof untouched);
+    memset(lines, ' ', sizeof lines);
+    memcpy(lines[0], "{98A:CNTR/20230315}", 19);
+    check(name, claim_tracker_write_transfer(message, sizeof message, fields, lines[0], lines[1]) == 0);
+    for (int form = 0; form < 3; form++) {
+        memcpy(balances, before, sizeof before);
+        memcpy(claims, untouched, sizeof claims);
+        struct claim_tracker_done done = by_form(form, pieces, piece_words, message, claims);
+        check(name, done.number == number && done.book.day == 20230404 && done.book.count == (number == 0));
+        if (number != 0)
+            check(name, done.claims == 0 && memcmp(claims, untouched, sizeof claims) == 0 && memcmp(balances, before, sizeof before) == 0);
+    }
+}
+
+/* Par on the piece and off it, what a whole balance allows, and pieces that are refused, of a loan too. */
+static void minimum_pieces(void) {
+    static const struct claim_tracker_transfer_fields fail = {1, 2, 0, 0, CLAIM_TRACKER_CODE_NONE, 200000},
+                                                      start = {1, 2, 0, 0, CLAIM_TRACKER_CODE_SLST, 15000};
+    uint32_t pieces[17];
+    for (size_t i = 0; i < 17; i++) pieces[i] = 1;
+    pieces[0] = 1000;
+    for (size_t i = 0; i < sizeof by_piece / sizeof *by_piece; i++)
+        check_pieces(by_piece[i].name, pieces, 16, by_piece[i].fields, by_piece[i].number);
+    pieces[0] = 1;
+    for (size_t i = 0; i < sizeof bad_pieces / sizeof *bad_pieces; i++) {
+        pieces[bad_pieces[i].place] = bad_pieces[i].piece;
+        check_pieces(bad_pieces[i].name, pieces, bad_pieces[i].words, fail, CLAIM_TRACKER_BAD_PIECES);
+        check_pieces(bad_pieces[i].name, pieces, bad_pieces[i].words, start, CLAIM_TRACKER_BAD_PIECES);
+        pieces[bad_pieces[i].place] = 1;
+    }
+    for (size_t i = 0; i < 16; i++) pieces[i] = 1000000;
+    check_pieces("sixteen pieces of 1,000,000", pieces, 16, (struct claim_tracker_transfer_fields){1, 2, 0, 0, 0, 1000000}, 0);
 }
 
 static const uint8_t expected[41] = {0x21, 0x00, 0x03, 0x00, 0x01, 0x00, 0x01, 0x02, 0x00, 0x00, 0x01, 0x00, 0x00, 0x00,
@@ -104,9 +199,9 @@ int main(void) {
     check("the bytes behind it stay", message[141] == 0xee && message[143] == 0xee);
 
     memset(out, 0xaa, sizeof out);
-    done = claim_tracker_transfer(calendar, 480, tables, 1824, book, balances, WORDS, message, sizeof message, out, 34);
+    done = claim_tracker_transfer(calendar, 480, tables, 1824, ones, 16, book, balances, WORDS, message, sizeof message, out, 34);
     check("one byte short", done.number == 10 && done.book.day == 20230404 && done.book.count == 0 && done.claims == 0 && out[0] == 0xaa);
-    done = claim_tracker_transfer(calendar, 480, tables, 1824, book, balances, WORDS, message, sizeof message, out, sizeof out);
+    done = claim_tracker_transfer(calendar, 480, tables, 1824, ones, 16, book, balances, WORDS, message, sizeof message, out, sizeof out);
     check("the transfer", done.number == 0 && done.book.day == 20230404 && done.book.count == 1 && done.claims == 1);
     check("the byte behind the claim stays", out[35] == 0xaa);
     check("the answer", claim_tracker_write_answer(out + 35, sizeof out - 35, (struct claim_tracker_answer){done.number}) == 0);
@@ -164,7 +259,7 @@ int main(void) {
 
     tables[4] = 20230515;
     book = claim_tracker_open(calendar, 480, tables, 1824, balances, WORDS, 20230502).book;
-    done = claim_tracker_transfer(calendar, 480, tables, 1824, book, balances, WORDS, message, sizeof message, out, 35);
+    done = claim_tracker_transfer(calendar, 480, tables, 1824, ones, 16, book, balances, WORDS, message, sizeof message, out, 35);
     claim = claim_tracker_read_claim(out, sizeof out);
     check("April's payment alone where May's waits too", done.number == 0 && done.claims == 1 && claim.number == 0
                                                              && claim.claim.claim_type == CLAIM_TRACKER_CLAIM_TYPE_FAIL
@@ -176,7 +271,7 @@ int main(void) {
     tables[9] = 20230403;
     book = claim_tracker_open(calendar, 480, tables, 1824, balances, WORDS, 20230404).book;
     check("a transfer without a tag is written", claim_tracker_write_transfer(message, sizeof message, fields, first, second) == 0);
-    done = claim_tracker_transfer(calendar, 480, tables, 1824, book, balances, WORDS, message, sizeof message, out, sizeof out);
+    done = claim_tracker_transfer(calendar, 480, tables, 1824, ones, 16, book, balances, WORDS, message, sizeof message, out, sizeof out);
     claim = claim_tracker_read_claim(out, sizeof out);
     check("May's payment behind its Record Date", done.number == 0 && done.claims == 1 && claim.number == 0
                                                       && claim.claim.claim_type == CLAIM_TRACKER_CLAIM_TYPE_INTERIM
@@ -190,7 +285,7 @@ int main(void) {
     fields.par = 15000;
     check("a loan is written", claim_tracker_write_transfer(message, sizeof message, fields, first, second) == 0);
     done = claim_tracker_open(calendar, 480, tables, 1824, balances, WORDS, 20230331);
-    done = claim_tracker_transfer(calendar, 480, tables, 1824, done.book, balances, WORDS, message, sizeof message, out, 0);
+    done = claim_tracker_transfer(calendar, 480, tables, 1824, ones, 16, done.book, balances, WORDS, message, sizeof message, out, 0);
     check("a loan's start", done.number == 0 && done.claims == 0 && done.book.count == 1 && balances[16 * 1 + 2] == 15000);
     uint8_t close[4];
     check("a close is written", claim_tracker_write_close(close, 4) == 0 && claim_tracker_read_close(close, 4) == 0);
@@ -206,10 +301,10 @@ int main(void) {
 
     struct claim_tracker_reply reply;
     book = claim_tracker_open(calendar, 480, tables, 1824, balances, WORDS, 20230331).book;
-    reply = claim_tracker_transfer_in(calendar, 480, tables, 1824, &book, balances, WORDS, message, sizeof message, out, 0);
+    reply = claim_tracker_transfer_in(calendar, 480, tables, 1824, ones, 16, &book, balances, WORDS, message, sizeof message, out, 0);
     check("a loan's start on the caller's book", reply.number == 0 && reply.claims == 0 && book.day == 20230331 && book.count == 1
                                                      && balances[16 * 1 + 2] == 15000);
-    reply = claim_tracker_transfer_in(calendar, 480, tables, 1824, &book, balances, WORDS, close, 4, out, sizeof out);
+    reply = claim_tracker_transfer_in(calendar, 480, tables, 1824, ones, 16, &book, balances, WORDS, close, 4, out, sizeof out);
     check("a close is refused as a transfer there", reply.number == 5 && reply.claims == 0 && book.day == 20230331 && book.count == 1);
     memset(out, 0xaa, sizeof out);
     reply = claim_tracker_close_in(calendar, 480, tables, 1824, &book, balances, WORDS, close, 4, out, 34);
@@ -224,8 +319,8 @@ int main(void) {
     fields.par = 30000;
     check("a repo is written", claim_tracker_write_transfer(repo, sizeof repo, fields, first, second) == 0);
     book = claim_tracker_open(calendar, 480, tables, 1824, balances, WORDS, 20230331).book;
-    done = claim_tracker_transfer(calendar, 480, tables, 1824, book, balances, WORDS, message, sizeof message, two, 0);
-    done = claim_tracker_transfer(calendar, 480, tables, 1824, done.book, balances, WORDS, repo, sizeof repo, two, 0);
+    done = claim_tracker_transfer(calendar, 480, tables, 1824, ones, 16, book, balances, WORDS, message, sizeof message, two, 0);
+    done = claim_tracker_transfer(calendar, 480, tables, 1824, ones, 16, done.book, balances, WORDS, repo, sizeof repo, two, 0);
     check("a repo's start beside the loan", done.number == 0 && done.claims == 0 && done.book.count == 2 && balances[16 * 1 + 2] == 15000
                                                 && balances[REPO + 16 * 1 + 2] == 30000);
     memset(two, 0xaa, sizeof two);
@@ -242,7 +337,7 @@ int main(void) {
                                  && claim.claim.transfer == 0 && claim.claim.interest == 15000 && claim.claim.principal == 0
                                  && claim.claim.release == 20230417 && claim.claim.slot == 3 && two[70] == 0xaa);
 
-    static const uint32_t published[CLAIM_TRACKER_LIMIT_WORDS] = {7, 6, 3, 2, 1}, fewer[CLAIM_TRACKER_LIMIT_WORDS] = {1, 16, 16, 16, 16};
+    static const uint32_t fewer[CLAIM_TRACKER_LIMIT_WORDS] = {1, 16, 16, 16, 16};
     static uint64_t before[WORDS];
     uint8_t fail[CLAIM_TRACKER_TRANSFER_BYTES], lent[sizeof two], untouched[sizeof two];
     fields.code = CLAIM_TRACKER_CODE_NONE;
@@ -255,7 +350,7 @@ int main(void) {
     memset(untouched, 0xaa, sizeof untouched);
     memcpy(two, untouched, sizeof two);
     memcpy(lent, untouched, sizeof lent);
-    done = claim_tracker_transfer(calendar, 480, tables, 1824, book, balances, WORDS, fail, sizeof fail, two, sizeof two);
+    done = claim_tracker_transfer(calendar, 480, tables, 1824, ones, 16, book, balances, WORDS, fail, sizeof fail, two, sizeof two);
     check("April and May by the published limits", done.number == 0 && done.book.count == 1 && done.claims == 2);
     done = with_limits(published, 5, book, fail, sizeof fail, lent, sizeof lent);
     check("the same where they are lent", done.number == 0 && done.book.day == 20230509 && done.book.count == 1 && done.claims == 2
@@ -291,17 +386,27 @@ int main(void) {
     book = claim_tracker_open(calendar, 480, tables, 1824, balances, WORDS, 20230331).book;
     check("half a book is not opened", claim_tracker_open(calendar, 480, tables, 1824, balances, REPO, 20230331).number == 1);
     check("nor takes it a transfer",
-          claim_tracker_transfer(calendar, 480, tables, 1824, book, balances, REPO, message, sizeof message, two, sizeof two).number == 1);
+          claim_tracker_transfer(calendar, 480, tables, 1824, ones, 16, book, balances, REPO, message, sizeof message, two,
+                                 sizeof two).number == 1);
     check("nor one with limits",
-          claim_tracker_transfer_with_limits(calendar, 480, tables, 1824, published, 5, book, balances, REPO, message, sizeof message, two,
-                                             sizeof two).number == 1);
+          claim_tracker_transfer_with_limits(calendar, 480, tables, 1824, published, 5, ones, 16, book, balances, REPO, message,
+                                             sizeof message, two, sizeof two).number == 1);
     check("nor a close", claim_tracker_close(calendar, 480, tables, 1824, book, balances, REPO, close, 4, two, sizeof two).number == 1);
-    reply = claim_tracker_transfer_in(calendar, 480, tables, 1824, &book, balances, REPO, message, sizeof message, two, sizeof two);
+    reply = claim_tracker_transfer_in(calendar, 480, tables, 1824, ones, 16, &book, balances, REPO, message, sizeof message, two,
+                                      sizeof two);
     check("nor a transfer on the caller's book", reply.number == 1 && book.day == 20230331 && book.count == 0);
     reply = claim_tracker_close_in(calendar, 480, tables, 1824, &book, balances, REPO, close, 4, two, sizeof two);
     check("nor a close there", reply.number == 1 && book.day == 20230331 && book.count == 0);
     served = claim_tracker_serve(calendar, 480, tables, 1824, book, balances, REPO, records, 141, true, output, sizeof output);
     check("nor a run", served.number == 1 && served.consumed == 0 && served.written == 0);
+
+    minimum_pieces();
+    book.day = 20230402;
+    done = claim_tracker_transfer_with_limits(calendar, 480, tables, 1824, published, 4, ones, 15, book, balances, WORDS, message,
+                                              sizeof message, two, sizeof two);
+    check("four limits before fifteen pieces", done.number == 12 && done.claims == 0);
+    done = claim_tracker_transfer(calendar, 480, tables, 1824, ones, 15, book, balances, WORDS, message, sizeof message, two, sizeof two);
+    check("fifteen pieces before a closed day", done.number == 13 && done.book.day == 20230402 && done.claims == 0);
 
     printf("%d passed, %d failed\n", passed, failed);
     return failed != 0;

@@ -13,8 +13,9 @@ from desk import claims, layout  # noqa: E402
 
 SOURCE = os.path.join(building.HERE, "header.c")
 IN_WORDS = {0: "accepted", 1: "length", 2: "calendar", 3: "tables", 4: "day", 5: "record", 6: "security", 7: "decrease", 8: "increase",
-            9: "close", 10: "buffer", 11: "count", 12: "date limits", 132: "more than one", 133: "without }", 135: "no date", 138: "after",
-            139: "not the day"}
+            9: "close", 10: "buffer", 11: "count", 12: "date limits", 13: "the pieces", 14: "no multiple", 132: "more than one",
+            133: "without }", 135: "no date", 138: "after", 139: "not the day"}
+BENCH_CALLS = ["open", "transfer", "transfer_with_limits", "close", "serve"]
 
 
 class Exports(unittest.TestCase):
@@ -30,6 +31,17 @@ class Exports(unittest.TestCase):
         header, exported = declarations.header_structs(), declarations.exported_structs()
         self.assertEqual(sorted(exported), sorted(declarations.STRUCTS.values()))
         self.assertEqual(header, exported)
+
+    def test_functions_of_the_bench(self):
+        """The bench declares the calls by hand: each has the arguments and the result of its export."""
+        declared, exports = declarations.bench_functions(), declarations.exports()
+        self.assertEqual(list(declared), ["claim_tracker_" + name for name in BENCH_CALLS])
+        self.assertEqual(declared, {name: exports[name] for name in declared})
+
+    def test_structs_of_the_bench(self):
+        declared, exported = declarations.bench_structs(), declarations.exported_structs()
+        self.assertEqual(list(declared), ["claim_tracker_book", "claim_tracker_done", "claim_tracker_served"])
+        self.assertEqual(declared, {name: exported[name] for name in declared})
 
 
 class Compilers(building.Library):
@@ -84,7 +96,7 @@ class Compilers(building.Library):
                     given = ", ".join("0" if argument == changed else argument for argument, _ in arguments)
                     yield "%s found = %s(%s); (void)found;" % (returned, name, given)
         path, lines = self.calls(change)
-        self.assertEqual(len(lines), 46)
+        self.assertEqual(len(lines), 49)
         for compiler in building.c_compilers():
             with self.subTest(compiler=compiler):
                 self.assertEqual(self.refused(compiler, path, "nonnull")[0], lines)

@@ -13,7 +13,7 @@ def bytes_of(word):
     return b"" if word == "-" else bytes.fromhex(word)
 
 
-def limits_of(word):
+def words_of(word):
     return array("I", [] if word == "-" else map(int, word.split(",")))
 
 
@@ -26,6 +26,7 @@ class Caller:
                       "balances": array("Q", bytes(8 * 2 * claim_tracker.BALANCE_WORDS))}
         self.lengths = [claim_tracker.CALENDAR_WORDS, claim_tracker.TABLE_WORDS, claim_tracker.BALANCE_WORDS]
         self.book = claim_tracker.Book(0)
+        self.pieces = {}
 
     def lent(self):
         """Calendar, tables and balances, as much of them as the lengths say."""
@@ -44,6 +45,8 @@ class Caller:
             self.words[name][int(words[0])] = int(words[1])
         elif name == "lengths":
             self.lengths = list(map(int, words))
+        elif name == "pieces":
+            self.pieces = {"pieces": words_of(words[0])}
         elif name == "book":
             self.book = claim_tracker.Book(*map(int, words))
         elif name == "text":
@@ -67,7 +70,8 @@ class Caller:
         *limits, room, message = words
         calendar, tables, balances = self.lent()
         buffer, given = bytearray(b"\xaa" * int(room)), self.book
-        done = getattr(claim_tracker, name)(calendar, tables, *map(limits_of, limits), given, balances, bytes_of(message), buffer)
+        pieces = self.pieces if name.startswith("transfer") else {}
+        done = getattr(claim_tracker, name)(calendar, tables, *map(words_of, limits), given, balances, bytes_of(message), buffer, **pieces)
         self.book = given if name.endswith("_in") else done.book
         return "%s %d claims %d %s" % (name, done.number, done.claims, self.left(buffer, claim_tracker.claim_room(done.claims)))
 

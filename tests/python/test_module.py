@@ -1,6 +1,8 @@
 """The Python module over an installed library: against a C caller on the same calls, against the reference's streams, and its refusals."""
 import builtins
+import ctypes
 import datetime
+import inspect
 import itertools
 import os
 import random
@@ -41,6 +43,17 @@ BROKEN = ("-", "7,6,3,2", "7,6,3,2,1,1", "0,6,3,2,1", "7,6,3,2,0", "17,6,3,2,1",
 
 
 # ---- lists of calls
+
+def piece_words(*first, count=16):
+    """Pieces as a line of a list has them: these, and ones behind them."""
+    return ",".join(map(str, [*first, *[1] * (count - len(first))]))
+
+
+ONES = piece_words()
+PIECES = (ONES, piece_words(1000), piece_words(7, 1000, 200000), piece_words(*[1000000] * 16))
+BAD_PIECES = ("-", piece_words(count=15), piece_words(count=17), piece_words(0), piece_words(*[1] * 15, 0), piece_words(1000001),
+              piece_words(1, 4294967295))
+
 
 def transfer_hex(sender, receiver, security, class_, code, par, first="", second=""):
     """A transfer record, made without the module."""
@@ -86,6 +99,8 @@ def random_calls(count, seed):
                       mostly(0, 1, 2), mostly(choice.choice((0, 0, 0, 0, 1, 7)), *range(2, 7), *range(8, 14)),
                       mostly(200000, 0, 1, 100000000, 100000001))
             form = choice.choice((form, "_with_limits " + mostly(choice.choice(LIMITS), *BROKEN)))
+            if choice.random() < 0.3:
+                lines.append("pieces " + mostly(ONES, *PIECES, *BAD_PIECES))
             lines.append("transfer%s %d %s" % (form, room, transfer_hex(*fields, tag, mostly("", "more text", TAG % day))))
     return lines
 
@@ -100,6 +115,10 @@ def edge_calls():
         lines += ["transfer_with_limits %s 245 %s" % (limits, opened) for limits in (LIMITS[0], BROKEN[0])]
     for day in (20230404, 20230509, 20230506):
         lines += ["book %d 0" % day] + ["transfer_with_limits %s 245 %s" % (limits, opened) for limits in LIMITS + BROKEN]
+    for day, pieces in itertools.product((20230404, 20230506), PIECES + BAD_PIECES):
+        lines += ["book %d 0" % day, "pieces " + pieces, "transfer 245 " + opened, "transfer_in 245 " + opened]
+        lines += ["transfer_with_limits %s 245 %s" % (limits, opened) for limits in (LIMITS[0], BROKEN[0])]
+    lines.append("pieces " + ONES)
     lines += ["open 20230402", "open 0", "open 4294967295", "book 20230404 4294967294"]
     lines += ["transfer 245 " + opened, "transfer_in 245 " + opened]
     for place in (18, 4096 + 18):
@@ -140,9 +159,9 @@ class AgainstC(building.Library):
 
     def test_random_calls(self):
         """Claims of each type and most numbers occur among them."""
-        found = self.same(random_calls(800, 6))
+        found = self.same(random_calls(800, 11))
         numbers = {int(line.split()[1]) for line in found}
-        self.assertGreaterEqual(numbers, {0, 5, 6, 7, 10, 12, 132, 133, 135, 138, 139})
+        self.assertGreaterEqual(numbers, {0, 5, 6, 7, 10, 12, 13, 14, 132, 133, 135, 138, 139})
         for name, least in (("transfer", 200), ("close", 5)):
             self.assertGreater(sum(int(line.split()[3]) for line in found if line.startswith(name)), least)
         for kind in ClaimType:
@@ -153,7 +172,7 @@ class AgainstC(building.Library):
     def test_edges(self):
         found = self.same(edge_calls())
         self.assertGreaterEqual({int(line.split()[1]) for line in found if not line.startswith("text")},
-                                {0, 1, 2, 3, 4, 5, 8, 9, 10, 11, 12})
+                                {0, 1, 2, 3, 4, 5, 8, 9, 10, 11, 12, 13, 14})
         self.assertEqual(found.count("text unknown number"), 201 - len(Number))
 
 
@@ -305,6 +324,112 @@ class Limits(unittest.TestCase):
             self.claims[:] = bytes(560)
 
 
+class Pieces(unittest.TestCase):
+    """Minimum pieces on the case tables: 1,000 for security 0, and 1 for the others. Security 1 is a Treasury without payments."""
+    LIMITS = array("I", [7, 6, 3, 2, 1])
+    BAD = [1] * 15, [1] * 17, [0] + [1] * 15, [1] * 15 + [0], [1000001] + [1] * 15, [1] * 15 + [2 ** 32 - 1], []
+
+    def setUp(self):
+        self.balances, self.pieces, self.tables = claim_tracker.new_balances(), claim_tracker.new_pieces(), TABLES[:]
+        self.pieces[0] = 1000
+        self.tables[114:116] = array("I", [1, 1])
+
+    def lend(self):
+        """A loan of 40,500 from account 1 to account 2, which is lent ones."""
+        message = bytes.fromhex(transfer_hex(1, 2, 0, 0, 1, 40500))
+        self.assertEqual(claim_tracker.transfer(CALENDAR, TABLES, Book(DAY), self.balances, message, bytearray()).number, 0)
+        self.assertEqual(self.balances[18], 40500)
+
+    def done(self, form, message, pieces, book, room):
+        """A call in one of its forms: its number, and the book, claims, balances and claim buffer after it."""
+        balances, claims, given = self.balances[:], bytearray(b"\xaa" * room), Book(book.day, book.count)
+        limits = [self.LIMITS] * form.endswith("limits")
+        done = getattr(claim_tracker, form)(CALENDAR, self.tables, *limits, given, balances, message, claims, pieces=pieces)
+        return done.number, given if form.endswith("in") else done.book, done.claims, balances, claims
+
+    def number(self, sender, receiver, code, par, *, security=0, pieces=None, book=Book(DAY), class_=0, room=35):
+        """The number of a late delivery, which each form answers. Refused, it leaves book, balances and claim buffer."""
+        message = bytes.fromhex(transfer_hex(sender, receiver, security, class_, code, par, TAG % 20230315))
+        pieces = self.pieces if pieces is None else array("I", pieces)
+        found, *others = (self.done(form, message, pieces, book, room) for form in ("transfer", "transfer_in", "transfer_with_limits"))
+        self.assertEqual(others, [found] * 2)
+        if found[0]:
+            self.assertEqual(found[1:], (book, 0, self.balances, b"\xaa" * room))
+        return found[0]
+
+    def test_multiples(self):
+        for code, par, number in ((0, 200000, 0), (0, 200500, 14), (0, 1000, 0), (0, 999, 14), (0, 1001, 14), (1, 1500, 14), (1, 2000, 0),
+                                  (4, 1500, 14), (5, 1500, 14), (7, 1500, 14), (7, 3000, 0), (0, 100000000, 0)):
+            self.assertEqual(self.number(1, 2, code, par), number, (code, par))
+
+    def test_each_security_has_its_own(self):
+        self.pieces[1] = 7
+        for security, par, number in ((0, 1001, 14), (1, 1001, 0), (0, 1000, 0), (1, 1000, 14), (0, 7000, 0), (1, 7000, 0)):
+            self.assertEqual(self.number(1, 2, 0, par, security=security), number, (security, par))
+
+    def test_whole_balance(self):
+        """A decrease of exactly the whole balance, and what is beside it."""
+        self.lend()
+        for code, par, number in ((3, 40500, 0), (2, 40500, 0), (6, 40500, 0), (3, 40000, 0), (3, 500, 14), (3, 40499, 14),
+                                  (3, 40501, 14), (3, 41000, 7), (3, 41500, 14), (9, 40500, 14), (8, 40500, 14), (12, 40500, 14),
+                                  (9, 40000, 7), (0, 40500, 14)):
+            self.assertEqual(self.number(2, 1, code, par), number, (code, par))
+        for code, number in ((1, 14), (4, 14), (5, 14), (3, 14), (7, 14)):
+            self.assertEqual(self.number(1, 2, code, 40500), number, code)
+
+    def test_whole_balance_on_repo(self):
+        self.balances[4096 + 18] = 40500
+        for code, number in ((8, 0), (9, 0), (12, 0), (2, 14), (3, 14), (6, 14)):
+            self.assertEqual(self.number(2, 1, code, 40500), number, code)
+
+    def test_rest_behind_whole_pieces(self):
+        """A balance off its piece goes down by whole pieces, and then its rest goes at once."""
+        self.lend()
+        book = Book(DAY)
+        for par, number, balance in ((40000, 0, 500), (499, 14, 500), (1000, 7, 500), (500, 0, 0)):
+            message = bytes.fromhex(transfer_hex(2, 1, 0, 0, 3, par))
+            done = claim_tracker.transfer_in(CALENDAR, TABLES, book, self.balances, message, bytearray(), pieces=self.pieces)
+            self.assertEqual((done.number, self.balances[18]), (number, balance), par)
+        self.assertEqual(book, Book(DAY, 2))
+
+    def test_bad_lists(self):
+        self.lend()
+        for pieces in self.BAD:
+            for sender, receiver, code in ((1, 2, 0), (1, 2, 1), (2, 1, 3), (2, 1, 9)):
+                self.assertEqual(self.number(sender, receiver, code, 40500, pieces=pieces), Number.BAD_PIECES, pieces)
+        self.assertEqual(self.number(1, 2, 0, 1000000, pieces=[1000000] * 16), 0)
+        self.assertEqual(self.number(1, 2, 0, 1000001, pieces=[1000000] * 16), Number.OFF_PIECE)
+
+    def test_order(self):
+        """12 before 13 before 4, and 139 and 11 before 14 before 8 and 10."""
+        closed, full = Book(20230402), Book(DAY, 2 ** 32 - 1)
+        for pieces in self.BAD:
+            done = claim_tracker.transfer_with_limits(CALENDAR, TABLES, array("I", [7, 6, 3, 2]), closed, self.balances, common.TRANSFER,
+                                                      bytearray(35), pieces=array("I", pieces))
+            self.assertEqual(done, (Number.BAD_LIMITS, closed, 0))
+            self.assertEqual(self.number(1, 2, 0, 200000, pieces=pieces, book=closed), Number.BAD_PIECES)
+        self.assertEqual(self.number(1, 2, 0, 200500, book=closed), Number.BAD_BOOK)
+        self.assertEqual(self.number(1, 1, 0, 200500), Number.BAD_FIELD)
+        self.assertEqual(self.number(1, 2, 0, 200500, class_=1), Number.CONTRACT_DATE_NOT_DAY)
+        self.assertEqual(self.number(1, 2, 0, 200500, book=full), Number.COUNT_FULL)
+        self.assertEqual(self.number(1, 2, 0, 200500, room=34), Number.OFF_PIECE)
+        self.assertEqual(self.number(1, 2, 0, 200000, room=34), Number.NO_ROOM)
+        self.balances[18] = 9000000000
+        self.assertEqual(self.number(1, 2, 1, 1500), Number.OFF_PIECE)
+        self.assertEqual(self.number(1, 2, 1, 1000), Number.PAST_LIMIT)
+
+    def test_ones(self):
+        """Without pieces, and in a run, any par is taken."""
+        message, claims = bytes.fromhex(transfer_hex(1, 2, 0, 0, 0, 200501, TAG % 20230315)), bytearray(35)
+        for call in (claim_tracker.transfer, claim_tracker.transfer_in):
+            self.assertEqual(call(CALENDAR, TABLES, Book(DAY), self.balances, message, claims).number, 0)
+        done = claim_tracker.transfer_with_limits(CALENDAR, TABLES, self.LIMITS, Book(DAY), self.balances, message, claims)
+        self.assertEqual((done.number, done.claims), (0, 1))
+        output = bytearray(claim_tracker.RECORD_ROOM)
+        served = claim_tracker.serve(CALENDAR, TABLES, Book(DAY), self.balances, message, True, output)
+        self.assertEqual((served.book, bytes(output[:41])), (Book(DAY, 1), bytes(claims) + common.answer(0)))
+
+
 class Largest(unittest.TestCase):
     """The sizes of claim buffers that FORMATS.md names: each is reached, and a byte less is too short."""
     DAYS = 20230102, 20230301, 20230302, 20230303
@@ -385,10 +510,18 @@ class Names(unittest.TestCase):
         self.assertEqual(enums, {})
 
     def test_functions(self):
-        """Each function has its call, with the header's arguments without counts."""
+        """Each function has its call, with the header's arguments without counts; the pieces may be left out, and go by their name."""
         for name, (_, arguments) in declarations.header_functions().items():
             call = getattr(claim_tracker, name.removeprefix("claim_tracker_"))
-            self.assertEqual(list(call.__code__.co_varnames[:call.__code__.co_argcount]), [word for word, _ in arguments if word])
+            given = inspect.getfullargspec(call)
+            words = [word for word, _ in arguments if word]
+            self.assertEqual(given.args, [word for word in words if word != "pieces"])
+            self.assertEqual(given.kwonlyargs, [word for word in words if word == "pieces"])
+
+    def struct(self, form):
+        """The C struct of the module for one of the crates."""
+        return getattr(claim_tracker, "_" + "".join("_" + letter if letter.isupper() and at else letter.upper()
+                                                    for at, letter in enumerate(form)))
 
     def test_structs(self):
         """The C structs of the module have the header's fields, names and sizes."""
@@ -396,10 +529,20 @@ class Names(unittest.TestCase):
                  "bool": "c_bool", "uint8_t[64]": "c_ubyte_Array_64"}
         own = {"struct " + c: form for form, c in declarations.STRUCTS.items()}
         for form, name in declarations.STRUCTS.items():
-            fields = getattr(claim_tracker, "_" + "".join("_" + letter if letter.isupper() and at else letter.upper()
-                                                          for at, letter in enumerate(form)))._fields_
-            self.assertEqual([(field, kind.__name__) for field, kind in fields],
+            self.assertEqual([(field, kind.__name__) for field, kind in self.struct(form)._fields_],
                              [(field, kinds.get(kind) or own[kind]) for field, kind in declarations.header_structs()[name]])
+
+    def test_argument_types(self):
+        """Each call is handed what the header declares: values by their types, words and bytes by their addresses."""
+        kinds = {"uint16_t": ctypes.c_uint16, "uint32_t": ctypes.c_uint32, "bool": ctypes.c_bool, declarations.COUNT: ctypes.c_size_t}
+        for form, name in declarations.STRUCTS.items():
+            kinds |= {"struct " + name: self.struct(form), "struct %s *" % name: ctypes.POINTER(self.struct(form))}
+        kinds |= {kind: ctypes.c_void_p for kind in ("const uint32_t *", "uint64_t *", "const uint8_t *", "uint8_t *", "const uint8_t[64]")}
+        functions = declarations.header_functions()
+        self.assertEqual(sorted(functions), sorted("claim_tracker_" + name for name in claim_tracker._CALLS))
+        for name, (returned, arguments) in functions.items():
+            call = claim_tracker._CALLS[name.removeprefix("claim_tracker_")]
+            self.assertEqual([call.restype, *call.argtypes], [kinds[returned], *(kinds[kind] for _, kind in arguments)], name)
 
 
 class Refusals(unittest.TestCase):
@@ -411,7 +554,7 @@ class Refusals(unittest.TestCase):
         self.book = Book(DAY)
 
     def good(self, **changed):
-        """The arguments of a transfer without limits, some of them changed."""
+        """The arguments of a transfer without limits and pieces, some of them changed."""
         return {"calendar": CALENDAR, "tables": TABLES, "book": self.book, "balances": self.balances, "message": common.TRANSFER,
                 "claims": self.buffer} | changed
 
@@ -445,6 +588,16 @@ class Refusals(unittest.TestCase):
         self.refused(ValueError, r"\Abalances and limits overlap\Z", call,
                      **self.good(limits=memoryview(self.balances).cast("B")[:20].cast("I")))
         self.refused(TypeError, r"missing 1 required positional argument: 'limits'", call, **self.good())
+
+    def test_pieces(self):
+        ones = [1] * 16
+        for call in (claim_tracker.transfer, claim_tracker.transfer_in):
+            for given in (None, ones, bytes(ones), array("Q", ones), array("i", ones)):
+                self.refused(TypeError, r"\Apieces: .*; allowed: 32-bit words", call, **self.good(pieces=given))
+            self.refused(ValueError, r"\Abalances and pieces overlap\Z", call,
+                         **self.good(pieces=memoryview(self.balances).cast("B")[:64].cast("I")))
+        for call in (claim_tracker.close, claim_tracker.close_in):
+            self.refused(TypeError, r"unexpected keyword argument 'pieces'", call, **self.good(pieces=claim_tracker.new_pieces()))
 
     def test_overlaps(self):
         call = claim_tracker.transfer
@@ -490,6 +643,7 @@ class Refusals(unittest.TestCase):
     def test_values_of_a_caller(self):
         self.assertEqual(claim_tracker.line("a"), b"a" + b" " * 63)
         self.assertEqual(claim_tracker.claim_room(3), 105)
+        self.assertEqual(claim_tracker.new_pieces(), array("I", [1] * 16))
         for call, given in ((claim_tracker.line, "x" * 65), (claim_tracker.line, "\u00e9"), (claim_tracker.line, b"x"),
                             (claim_tracker.claim_room, -1), (claim_tracker.read_book_file, bytes(9219))):
             self.assertRaises(ValueError, call, given)

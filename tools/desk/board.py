@@ -5,7 +5,7 @@ from html import escape
 
 from . import book as books
 from . import claims, dates, factors, layout, messages, running, timeline
-from .errors import Fault, Mistakes
+from .errors import Fault
 from .sources import sample
 
 TITLE = "Which of these two transfers owes money?"
@@ -125,7 +125,7 @@ class Side:
         opened = books.Book(self.book.calendar, self.book.tables, dates.number(self.settlement), self.book.names)
         with tempfile.TemporaryDirectory(prefix="claimdesk-") as folder:
             run = running.Run(path, folder, opened, running.Progress())
-            run.messages([Plain(self.fields)], Mistakes())
+            run.transfer(self.transfer)
             run.work()
             with run.output() as output:
                 self.records = list(claims.records(output, "claimrun's output"))
@@ -155,11 +155,15 @@ class Side:
         return found + [("Settlement day", timeline.day_words(self.settlement))] + self.security_facts()
 
     def security_facts(self):
-        """What the amount of a claim is worked out from: type, frequency, and the factors of each payment that is drawn."""
+        """What the amount of a claim is worked out from: type, frequency, and the factors of each payment that is drawn. A piece that is
+        given stands among them."""
         words = self.book.tables[layout.SECURITY_WORDS * self.transfer.security:][:2]
         if words[0] == 0:
             return []
         found = [("Type", "%s, %s" % (layout.name_of(layout.TYPES, words[0]), layout.name_of(layout.FREQUENCIES, words[1])))]
+        piece = self.book.names.piece(self.transfer.security)
+        if piece != 1:
+            found.append(("Piece", "$%s of par; claimrun lends ones and does not ask for it" % format(piece, ",")))
         for number, row in self.rows:
             which = ", row %d" % number if len(self.rows) > 1 else ""
             found.append(("Payment" + which, "for each dollar of par $%s interest, $%s principal" % (
@@ -229,14 +233,6 @@ class Side:
         marks = [timeline.Event(dates.of_number(number), "release", "Release date") for number in releases]
         events = self.events() + marks
         return timeline.draw(self.number + 2, "release, " + self.title, events, timeline.Scale([events], self.book.calendar))
-
-
-class Plain(messages.Fields):
-    """The message fields of a [[transfer]] table."""
-
-    def __init__(self, fields):
-        super().__init__({key: value for key, value in fields.values.items() if key in messages.TRANSFER_KEYS})
-        self.fault = fields.fault
 
 
 def article(side, scale):

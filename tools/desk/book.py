@@ -2,7 +2,7 @@
 import os
 
 from . import calendars, dates, factors, files, layout, names
-from .errors import Fault, Mistakes, warn
+from .errors import Fault, Mistakes
 from .sources import Source
 
 KEYS = ("opening_day", "calendar", "accounts", "security", "words")
@@ -100,15 +100,18 @@ def opening_day(fields, key, calendar):
 
 def place_security(fields, tables, numbers, its_names, last_open, found):
     """Writes one [[security]] into the tables."""
-    fields.known(found, "number", "name", "type", "frequency", "payment")
+    fields.known(found, "number", "name", "type", "frequency", "piece", "payment")
     number = found.take(number_of, fields, numbers)
     name = found.take(names.checked, fields, "name", its_names.securities) if fields.has("name") else None
     kind, frequency = found.take(fields.choice, "type", layout.TYPES), found.take(fields.choice, "frequency", layout.FREQUENCIES)
+    piece = found.take(fields.integer, "piece", 1, layout.PIECE_MAX, 1)
     rows = rows_of(fields, its_names, last_open, found)
     if number is None:
         return
     if name is not None:
         its_names.securities[number] = name
+    if piece is not None:
+        its_names.pieces[number] = piece
     words = [kind, frequency] + [word for row in rows for word in row]
     start = layout.SECURITY_WORDS * number
     tables[start:start + len(words)] = words
@@ -145,8 +148,8 @@ def warn_of_rows_behind(payments, found):
     """A payment that redeems the security should be its last."""
     for number, payment in enumerate(payments[:-1], 1):
         if found.take(payment.flag, "final", False):
-            warn(payment.fault("final", "redeems the security, and payments stand behind it (%d of %d)" % (number, len(payments)),
-                               "final in the last payment"))
+            found.warn(payment.fault("final", "redeems the security, and payments stand behind it (%d of %d)" % (number, len(payments)),
+                                     "final in the last payment"))
 
 
 def row_of(fields, its_names, found):

@@ -31,6 +31,8 @@ MEANINGS = {
     10: "the claims do not fit the claim buffer",
     11: "the transfer count is already 4,294,967,295",
     12: "the date limits have a wrong length or break a rule",
+    13: "the pieces have a wrong length or a number outside 1 to 1,000,000",
+    14: "the par is no multiple of the security's piece and does not clear the whole balance",
     132: "more than one Contract Date tag opens",
     133: "a Contract Date tag without } in its line",
     135: "the Contract Date tag holds no date",

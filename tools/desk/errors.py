@@ -40,10 +40,11 @@ class Faults(Fault):
 
 
 class Mistakes:
-    """Collects the mistakes of a source, so that all of them are told at once, or the first of very many."""
+    """Collects the mistakes of a source, so that all of them are told at once, or the first of very many. What is odd in it and taken all
+    the same is a warning, told when it is found."""
 
     def __init__(self):
-        self.faults, self.texts, self.count = [], set(), 0
+        self.faults, self.texts, self.count, self.warnings = [], set(), 0, 0
 
     def add(self, fault):
         """One more mistake; the same one is told once."""
@@ -67,6 +68,14 @@ class Mistakes:
             self.add(fault)
             return None
 
+    def warn(self, fault):
+        """Tells a warning on standard error, one of the first."""
+        self.warnings += 1
+        if self.warnings <= MOST:
+            print(fault.text("warning"), file=sys.stderr)
+        if self.warnings == MOST:
+            print("claimdesk: there may be more; %d warnings are told at most" % MOST, file=sys.stderr)
+
     def end(self):
         """Ends the command if there is a mistake."""
         if self.faults:
@@ -75,8 +84,3 @@ class Mistakes:
 
 class Untold(Fault):
     """What follows from a mistake that is told already."""
-
-
-def warn(fault):
-    """Tells on standard error what is odd in a source that is taken all the same."""
-    print(fault.text("warning"), file=sys.stderr)

@@ -14,6 +14,7 @@ WORD_MAX = 2 ** 32 - 1
 FACTOR_ONE = 1_000_000_000
 FACTOR_MAX = 2_000_000_000
 PAR_MAX = 100_000_000
+PIECE_MAX = 1_000_000
 LINE = 64
 
 TYPES = {"Treasury": 1, "non-Treasury debt": 2, "agency MBS": 3, "US-guaranteed MBS": 4}

@@ -73,7 +73,20 @@ def make_transfer(fields, its_names, found):
     code = found.take(fields.choice, "code", layout.CODES, "none")
     par = found.take(fields.integer, "par", 1, layout.PAR_MAX)
     lines = make_lines(fields, found)
-    return None if found.count > before else layout.Transfer(sender, receiver, security, market, code, par, *lines)
+    if found.count > before:
+        return None
+    warn_of_piece(fields, security, par, its_names, found)
+    return layout.Transfer(sender, receiver, security, market, code, par, *lines)
+
+
+def warn_of_piece(fields, security, par, its_names, found):
+    """A par should be a multiple of its security's piece, though claimrun, which lends ones, does not ask for it."""
+    piece = its_names.piece(security)
+    if par % piece:
+        words = format(par, ","), format(piece, ","), its_names.security_name(security)
+        found.warn(fields.fault("par", "%s is no multiple of the piece %s of %s: claimrun lends ones and does not refuse it for this, a "
+                                "call lent this piece answers 14" % words,
+                                "multiples of %s, or exactly the whole balance in a decrease" % words[1]))
 
 
 def make_lines(fields, found):

@@ -1,4 +1,4 @@
-"""Names of accounts and securities, given in a book's source."""
+"""Names of accounts and securities, and pieces of securities, given in a book's source."""
 from . import layout
 from .sources import listing, sample
 
@@ -7,10 +7,11 @@ SECURITY = "a security, 0 to %d or its name" % (layout.SECURITIES - 1)
 
 
 class Names:
-    """The names by number; an account or security without a name goes by its number."""
+    """The names by number; an account or security without a name goes by its number. Beside them stand the pieces that are given, 1 where
+    none is: book.dat has neither."""
 
     def __init__(self):
-        self.accounts, self.securities = {}, {}
+        self.accounts, self.securities, self.pieces = {}, {}, {}
 
     def account_label(self, number):
         """An account's name, or its number, for tables. Names are given once each."""
@@ -27,6 +28,10 @@ class Names:
     def security_name(self, number):
         """A security's name, for sentences."""
         return self.securities.get(number, "security %d" % number)
+
+    def piece(self, number):
+        """A security's piece."""
+        return self.pieces.get(number, 1)
 
 
 def checked(fields, key, taken):

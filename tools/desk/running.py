@@ -110,6 +110,11 @@ class Run:
             messages.make_into(file, fields_in_order, self.book.names, found,
                                lambda count: self.progress.show("%d messages made", count))
 
+    def transfer(self, transfer):
+        """Writes a transfer as the only message."""
+        with open(os.path.join(self.folder, "messages.dat"), "wb") as file:
+            file.write(layout.transfer_bytes(transfer))
+
     def work(self):
         """Runs claimrun and sees that each message got its answer."""
         with open(os.path.join(self.folder, "book.dat"), "wb") as file:

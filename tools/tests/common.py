@@ -47,6 +47,7 @@ beneficiary = 2023-05-01
 payment = 2023-05-15
 interest = "0.005"
 """
+IN_PIECES = BOOK.replace('name = "Pool"', 'name = "Pool"\npiece = 1_000')
 MESSAGES = """
 [[message]]
 sender = "First Bank"

@@ -7,7 +7,7 @@ import unittest
 
 import chromium
 import common
-from common import BOOK, EXAMPLES, PAIR, content
+from common import BOOK, EXAMPLES, IN_PIECES, PAIR, content
 
 WORKSHOP = os.path.join(EXAMPLES, "workshop-pair.toml")
 WIDTHS = (420, 800, 1280, 1600)
@@ -144,6 +144,22 @@ class Board(Pages):
         words = self.parsed(WORKSHOP).words
         for fact in ("agency MBS, monthly", "for each dollar of par $0.005 interest, $0.01 principal"):
             self.assertIn(fact, words)
+
+    def test_pieces(self):
+        """A piece other than 1 is shown, and that claimrun does not look at it."""
+        shown = "$1,000 of par; claimrun lends ones and does not ask for it"
+        self.assertEqual(self.parsed(IN_PIECES + PAIR).words.count(shown), 2)
+        for text in (BOOK, IN_PIECES.replace("1_000", "1")):
+            self.assertNotIn("Piece", self.parsed(text + PAIR).words)
+
+    def test_par_off_the_piece(self):
+        """It is warned of once, by check too, and claimed on all the same."""
+        source = self.file("pair.toml", IN_PIECES + PAIR.replace("200_000", "200_500", 1))
+        status, _, errors = self.call("board", source, "-o", self.path("board.html"))
+        self.assertEqual((status, errors.count("\n")), (0, 1))
+        self.assertIn("pair.toml:32: warning: [[transfer]] 1, par: 200,500 is no multiple of the piece 1,000 of Pool", errors)
+        self.assertEqual(self.call("check", source)[::2], (0, errors))
+        self.assertIn("$1,002.50 interest", Page(content(self.path("board.html")).decode("utf-8")).folded)
 
     def test_several_claims_are_a_table(self):
         """One row for each claim, and no totals."""

@@ -4,7 +4,8 @@ import struct
 import unittest
 
 import common
-from common import BOOK, CASE_BOOK, content
+from common import BOOK, CASE_BOOK, IN_PIECES, content
+from desk import book
 
 CALENDAR = 480 * 4
 
@@ -86,6 +87,15 @@ restricted = [0, "Last Bank"]
         self.assertIn("book.toml:18: warning: [[security]] 1, payment 1, final: redeems the security, and payments stand behind it", errors)
         data = words(content(self.path("book.dat")))
         self.assertEqual((data[480 + 7], data[480 + 14]), (1, 1))
+
+    def test_pieces(self):
+        """A piece is read and kept beside the words, which have no place for it: the bytes are the same, and they show none."""
+        for text, piece in ((BOOK, 1), (IN_PIECES, 1000), (IN_PIECES.replace("1_000", "1"), 1),
+                            (IN_PIECES.replace("1_000", "1_000_000"), 1000000)):
+            self.assertEqual(book.read(self.file("source.toml", text)).names.piece(0), piece)
+            self.assertEqual(self.made(text), content(CASE_BOOK))
+        self.assertEqual(book.read(self.path("source.toml")).names.piece(1), 1)
+        self.assertNotIn("piece", self.back(content(self.path("book.dat"))))
 
     def test_random_files(self):
         dice = random.Random(1)

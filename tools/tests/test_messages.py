@@ -3,7 +3,7 @@ import random
 import unittest
 
 import common
-from common import BOOK, CASE_MESSAGES, MESSAGES, content
+from common import BOOK, CASE_MESSAGES, IN_PIECES, MESSAGES, content
 
 CLOSE = bytes([2, 0, 2, 0])
 TRANSFER = content(CASE_MESSAGES)
@@ -112,6 +112,33 @@ class Messages(common.Desk):
         self.file("inner.toml", "[[message]]\nclose = 3\n")
         self.assertEqual(self.made('messages = "inner.csv"\n'), CLOSE * 4)
         self.assertEqual(self.made('messages = "inner.toml"\n'), CLOSE * 3)
+
+    def test_par_off_the_piece(self):
+        """It is made, with a warning that claimrun does not look at the piece. A multiple has none, nor a par of another security."""
+        text = IN_PIECES + MESSAGES.replace("200_000", "200_500")
+        source = self.file("m.toml", text)
+        status, output, errors = self.call("messages", "make", source)
+        self.assertEqual((status, output), (0, record(par=200_500, line1=b"{98A:CNTR/20230315}") + CLOSE * 2))
+        self.assertEqual(errors, "%s:30: warning: [[message]] 1, par: 200,500 is no multiple of the piece 1,000 of Pool: claimrun lends "
+                         "ones and does not refuse it for this, a call lent this piece answers 14; allowed: multiples of 1,000, or exactly "
+                         "the whole balance in a decrease\n" % source)
+        for command in ("check", "run"):
+            self.assertEqual(self.call(command, source)[::2], (0, errors))
+        for good in (text.replace("200_500", "200_000"), text.replace("200_500", "1_000"), BOOK + MESSAGES.replace("200_000", "200_500"),
+                     text.replace('security = "Pool"', "security = 3")):
+            self.made(good)
+
+    def test_par_off_the_piece_in_csv(self):
+        """Twenty warnings are told at most, each with its line; all messages are made."""
+        book = self.file("book.toml", IN_PIECES)
+        for count in (1, 19, 20, 500):
+            source = self.file("m.csv", "sender,receiver,security,code,par\n" + "2,1,Pool,CLSL,1500\n" * count + "1,2,Pool,,2000\n")
+            status, output, errors = self.call("messages", "make", source, "--book", book)
+            self.assertEqual((status, output), (0, record(2, 1, code=3, par=1500) * count + record(par=2000)))
+            told = min(count, 20)
+            for line, words in enumerate(errors.split("\n")[:told], 2):
+                self.assertIn("m.csv:%d: warning: par: 1,500 is no multiple of the piece 1,000 of Pool" % line, words)
+            self.assertEqual(errors.split("\n")[told:-1], ["claimdesk: there may be more; 20 warnings are told at most"] * (told == 20))
 
     def test_show_reads_standard_input(self):
         self.assertEqual(self.good("messages", "show", given=CLOSE), b"[[message]]\nclose = 1\n")

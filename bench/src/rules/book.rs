@@ -2,6 +2,7 @@
 use super::claims;
 use super::days::{self, Calendar};
 use super::limits::{self, Limits, PUBLISHED};
+use super::pieces::{self, ONES, Pieces};
 use super::records::{self, Transfer};
 use super::tables::{self, Tables};
 use super::tags;
@@ -47,30 +48,51 @@ fn judge_balances(balances: &Balances) -> Result<(), u16> {
     Ok(())
 }
 
-/// A book with its balances on a calendar, tables and date limits, all of which keep their rules.
+/// What a transfer does to the balances: it adds to a word or takes from one.
+enum Change {
+    Nothing,
+    Up(usize),
+    Down(usize),
+}
+
+/// Codes 7 to 12 do on repo what 1 to 6 do on loan.
+fn change(transfer: &Transfer) -> Change {
+    let (start, step) = if transfer.code > 6 { (TRACKING_WORDS, transfer.code - 6) } else { (0, transfer.code) };
+    let word = |lender, borrower| start + 256 * transfer.security as usize + 16 * lender as usize + borrower as usize;
+    match step {
+        1 | 4 | 5 => Change::Up(word(transfer.sender, transfer.receiver)),
+        2 | 3 | 6 => Change::Down(word(transfer.receiver, transfer.sender)),
+        _ => Change::Nothing,
+    }
+}
+
+/// A book with its balances on a calendar, tables, date limits and pieces, all of which keep their rules.
 pub struct Sound<'a> {
     calendar: &'a Calendar,
     tables: &'a Tables,
     limits: &'a Limits,
+    pieces: &'a Pieces,
     balances: &'a mut Balances,
     pub book: Book,
 }
 
 impl<'a> Sound<'a> {
-    /// Judges numbers 1, 2, 3, 12 and 4.
+    /// Judges numbers 1, 2, 3, 12, 13 and 4.
     pub fn judge(
         calendar: &'a [u32],
         tables: &'a [u32],
         limits: &'a [u32],
+        pieces: &'a [u32],
         book: Book,
         balances: &'a mut [u64],
     ) -> Result<Self, u16> {
         let (calendar, tables) = judge_tables(calendar, tables, balances.len())?;
         let balances: &mut Balances = balances.try_into().or(Err(1u16))?;
         let limits = limits::judged(limits).ok_or(12u16)?;
+        let pieces = pieces::judged(pieces).ok_or(13u16)?;
         judge_day(calendar, book.day)?;
         judge_balances(balances)?;
-        Ok(Sound { calendar, tables, limits, balances, book })
+        Ok(Sound { calendar, tables, limits, pieces, balances, book })
     }
 
     fn judge_fields(&self, transfer: &Transfer) -> Result<(), u16> {
@@ -89,23 +111,25 @@ impl<'a> Sound<'a> {
         Ok(())
     }
 
-    /// The word of the balances that a transfer changes and what it becomes: codes 7 to 12 do on repo what 1 to 6 do on loan.
-    fn tracked(&self, transfer: &Transfer) -> Result<Option<(usize, u64)>, u16> {
-        let (start, step) = if transfer.code > 6 { (TRACKING_WORDS, transfer.code - 6) } else { (0, transfer.code) };
-        let word = |lender, borrower| start + 256 * transfer.security as usize + 16 * lender as usize + borrower as usize;
-        let par = transfer.par as u64;
-        match step {
-            1 | 4 | 5 => {
-                let at = word(transfer.sender, transfer.receiver);
+    /// Par comes in whole pieces, unless it takes all of a balance.
+    fn judge_piece(&self, transfer: &Transfer, change: &Change) -> Result<(), u16> {
+        let clears = matches!(*change, Change::Down(at) if self.balances[at] == transfer.par as u64);
+        let whole = transfer.par.is_multiple_of(self.pieces[transfer.security as usize]);
+        if whole || clears { Ok(()) } else { Err(14) }
+    }
+
+    /// The word of the balances that a transfer changes and what it becomes.
+    fn tracked(&self, par: u64, change: &Change) -> Result<Option<(usize, u64)>, u16> {
+        match *change {
+            Change::Up(at) => {
                 let after = self.balances[at] + par;
                 if after > MOST_LENT { Err(8) } else { Ok(Some((at, after))) }
             }
-            2 | 3 | 6 => {
-                let at = word(transfer.receiver, transfer.sender);
+            Change::Down(at) => {
                 let after = self.balances[at].checked_sub(par).ok_or(7u16)?;
                 Ok(Some((at, after)))
             }
-            _ => Ok(None),
+            Change::Nothing => Ok(None),
         }
     }
 
@@ -116,7 +140,9 @@ impl<'a> Sound<'a> {
         let contract = tags::contract_date(transfer.lines, self.book.day, transfer.class)?;
         let count = self.book.count.checked_add(1).ok_or(11u16)?;
         let counted = Book { count, ..self.book };
-        let tracked = self.tracked(&transfer)?;
+        let change = change(&transfer);
+        self.judge_piece(&transfer, &change)?;
+        let tracked = self.tracked(transfer.par as u64, &change)?;
         let written = match transfer.code {
             0 => claims::write_transfer(self.calendar, self.tables, self.limits, counted, &transfer, contract, claims)?,
             _ => 0,
@@ -159,21 +185,31 @@ pub fn open(calendar: &[u32], tables: &[u32], balances: &mut [u64], day: u32) ->
 }
 
 /// Works a transfer with the published numbers of Beneficiary Dates.
-pub fn transfer(calendar: &[u32], tables: &[u32], book: Book, balances: &mut [u64], message: &[u8], claims: &mut [u8]) -> Done {
-    transfer_with_limits(calendar, tables, &PUBLISHED, book, balances, message, claims)
-}
-
-/// Works a transfer with other numbers of Beneficiary Dates.
-pub fn transfer_with_limits(
+pub fn transfer(
     calendar: &[u32],
     tables: &[u32],
-    limits: &[u32],
+    pieces: &[u32],
     book: Book,
     balances: &mut [u64],
     message: &[u8],
     claims: &mut [u8],
 ) -> Done {
-    let worked = Sound::judge(calendar, tables, limits, book, balances)
+    transfer_with_limits(calendar, tables, &PUBLISHED, pieces, book, balances, message, claims)
+}
+
+/// Works a transfer with other numbers of Beneficiary Dates.
+#[allow(clippy::too_many_arguments)]
+pub fn transfer_with_limits(
+    calendar: &[u32],
+    tables: &[u32],
+    limits: &[u32],
+    pieces: &[u32],
+    book: Book,
+    balances: &mut [u64],
+    message: &[u8],
+    claims: &mut [u8],
+) -> Done {
+    let worked = Sound::judge(calendar, tables, limits, pieces, book, balances)
         .and_then(|mut sound| sound.transfer(message, claims).map(|claims| (sound.book, claims)));
     match worked {
         Ok((book, claims)) => Done { number: 0, book, claims },
@@ -183,7 +219,7 @@ pub fn transfer_with_limits(
 
 /// Works a close.
 pub fn close(calendar: &[u32], tables: &[u32], book: Book, balances: &mut [u64], message: &[u8], claims: &mut [u8]) -> Done {
-    let worked = Sound::judge(calendar, tables, &PUBLISHED, book, balances)
+    let worked = Sound::judge(calendar, tables, &PUBLISHED, &ONES, book, balances)
         .and_then(|mut sound| sound.close(message, claims).map(|claims| (sound.book, claims)));
     match worked {
         Ok((book, claims)) => Done { number: 0, book, claims },

@@ -1,7 +1,7 @@
 //! A run of records.
 use super::book::Sound;
 use super::records::{self, ANSWER_BYTES, CLAIM_BYTES, CLOSE_BYTES, CLOSE_HEADER, TRANSFER_BYTES, TRANSFER_HEADER};
-use super::{Book, CLAIM_ROOM, PUBLISHED, RECORD_ROOM, Served};
+use super::{Book, CLAIM_ROOM, ONES, PUBLISHED, RECORD_ROOM, Served};
 
 enum Next<'a> {
     Transfer(&'a [u8]),
@@ -33,7 +33,7 @@ pub fn serve(
     ended: bool,
     output: &mut [u8],
 ) -> Served {
-    let mut sound = match Sound::judge(calendar, tables, &PUBLISHED, book, balances) {
+    let mut sound = match Sound::judge(calendar, tables, &PUBLISHED, &ONES, book, balances) {
         Ok(sound) => sound,
         Err(number) => return Served { number, book, consumed: 0, written: 0, over: false, full: false },
     };
