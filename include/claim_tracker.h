@@ -64,10 +64,10 @@
 #include <stddef.h>
 #include <stdint.h>
 
-#define CLAIM_TRACKER_VERSION_MAJOR 1
-#define CLAIM_TRACKER_VERSION_MINOR 5
+#define CLAIM_TRACKER_VERSION_MAJOR 2
+#define CLAIM_TRACKER_VERSION_MINOR 0
 #define CLAIM_TRACKER_VERSION_PATCH 0
-#define CLAIM_TRACKER_VERSION "1.5.0"
+#define CLAIM_TRACKER_VERSION "2.0.0"
 
 /* Every function answers a number that a caller has to look at, and takes no null pointer; compilers that can, watch over both. */
 #if defined(__GNUC__)

@@ -5,7 +5,7 @@ objects that give such memory will do. A transfer that is given no pieces lends 
 type, a value that its field cannot hold, a buffer that cannot be written to or buffers that overlap raise TypeError or ValueError, and
 nothing is called. FORMATS.md says what the words and bytes mean.
 
-The library is the file that the environment variable CLAIM_TRACKER_LIBRARY names, else libclaim_tracker.so.1 beside this module.
+The library is the file that the environment variable CLAIM_TRACKER_LIBRARY names, else libclaim_tracker.so.2 beside this module.
 """
 import ctypes
 import operator
@@ -15,7 +15,7 @@ from dataclasses import dataclass
 from enum import IntEnum
 from typing import NamedTuple
 
-__version__ = "1.5.0"
+__version__ = "2.0.0"
 
 ACCOUNTS = 16
 SECURITIES = 16
@@ -295,7 +295,7 @@ def _load():
     """The functions of the library by their names."""
     path = os.environ.get("CLAIM_TRACKER_LIBRARY")
     if not path:
-        path = os.path.join(os.path.dirname(os.path.realpath(__file__)), "libclaim_tracker.so.1")
+        path = os.path.join(os.path.dirname(os.path.realpath(__file__)), "libclaim_tracker.so.2")
     if not os.path.isfile(path):
         raise ImportError("there is no library %s: CLAIM_TRACKER_LIBRARY names it, or it stands beside the module" % path)
     try:

@@ -20,9 +20,9 @@ COMMAND = os.path.join(ROOT, "tools", "install")
 EXAMPLE = os.path.join(ROOT, "examples", "first_claim.c")
 EXPECTED = "0 accepted, transfer 1\naccount 1 pays account 2 100000 cents of interest on 20230417\n"
 VERSION = building.content("VERSION").strip()
-LINKS = {"lib/libclaim_tracker.so": "libclaim_tracker.so.1", "lib/libclaim_tracker.so.1": "libclaim_tracker.so." + VERSION,
+LINKS = {"lib/libclaim_tracker.so": "libclaim_tracker.so.2", "lib/libclaim_tracker.so.2": "libclaim_tracker.so." + VERSION,
          "bin/claimdesk": "../lib/claim_tracker/claimdesk", "lib/claim_tracker/claimrun": "../../bin/claimrun",
-         "lib/claim_tracker/python/libclaim_tracker.so.1": "../../libclaim_tracker.so.1"}
+         "lib/claim_tracker/python/libclaim_tracker.so.2": "../../libclaim_tracker.so.2"}
 PROGRAMS = {"bin/claimrun", "lib/claim_tracker/claimdesk", "lib/libclaim_tracker.so." + VERSION}
 TEXTS = {"include/claim_tracker.h", "lib/libclaim_tracker.a", "lib/pkgconfig/claim_tracker.pc", "lib/claim_tracker/VERSION",
          "lib/claim_tracker/python/claim_tracker.py", "share/man/man1/claimrun.1", "share/man/man1/claimdesk.1",
@@ -237,7 +237,7 @@ class Building(Install):
         for name, words in tries.items():
             with self.subTest(name=name):
                 self.run_text("cc", *building.WARNINGS, "-std=c99", *flags, EXAMPLE, *words, "-o", self.path(name))
-                self.assertEqual("libclaim_tracker.so.1" in self.needed(self.path(name)), name == "shared")
+                self.assertEqual("libclaim_tracker.so.2" in self.needed(self.path(name)), name == "shared")
         libraries = os.environ | {"LD_LIBRARY_PATH": os.path.join(prefix, "lib")}
         self.assertEqual(self.run_text(self.path("shared"), env=libraries), EXPECTED)
         self.assertEqual(self.run_text(self.path("static")), EXPECTED)
@@ -250,7 +250,7 @@ class Building(Install):
     def test_shared_library(self):
         """Its SONAME, and exactly the functions of the header; of others it needs the C library alone."""
         path = os.path.join(self.prefix(), "lib/libclaim_tracker.so." + VERSION)
-        self.assertEqual(re.findall(r"\(SONAME\).*\[(.*)\]", self.run_text("readelf", "-d", path)), ["libclaim_tracker.so.1"])
+        self.assertEqual(re.findall(r"\(SONAME\).*\[(.*)\]", self.run_text("readelf", "-d", path)), ["libclaim_tracker.so.2"])
         self.assertEqual(self.needed(path), ["libc.so.6"])
         symbols = [line.split()[-1] for line in self.run_text("nm", "-D", "--defined-only", path).splitlines()]
         self.assertEqual(sorted(symbols), sorted(declarations.header_functions()))

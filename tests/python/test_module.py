@@ -680,7 +680,7 @@ class Library(building.Library):
         library = os.path.join(PREFIX, "lib", "libclaim_tracker.so")
         self.assertEqual(self.imports(module, CLAIM_TRACKER_LIBRARY=library).stdout, "0\n")
         run = self.imports(module)
-        self.assertIn("ImportError: there is no library %s" % os.path.join(module, "libclaim_tracker.so.1"), run.stderr)
+        self.assertIn("ImportError: there is no library %s" % os.path.join(module, "libclaim_tracker.so.2"), run.stderr)
         run = self.imports(PYTHON, CLAIM_TRACKER_LIBRARY=self.path("missing.so"))
         self.assertIn("ImportError: there is no library %s" % self.path("missing.so"), run.stderr)
         run = self.imports(PYTHON, CLAIM_TRACKER_LIBRARY=self.file("bad.so", b"text"))

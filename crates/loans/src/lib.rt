@@ -96,8 +96,8 @@ fn off_piece(pieces: &[u32], balances: &[u64], t: Transfer) -> bool
         return false;
     }
     if decreases(t.code) {
-        let borrowed = balances[word_of(t.code, t.security, t.receiver, t.sender)];
-        return borrowed != t.par as u64;
+        let held = balances[word_of(t.code, t.security, t.receiver, t.sender)];
+        return held != t.par as u64;
     }
     true
 }

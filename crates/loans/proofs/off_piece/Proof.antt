@@ -38,11 +38,11 @@ decreases-requires c κs = search needs
 word-of-requires : tie.Need-word-of-requires
 word-of-requires c κs = search needs
 
-mul-borrowed : tie.Need-mul-borrowed
-mul-borrowed c = search needs
+mul-held : tie.Need-mul-held
+mul-held c = search needs
 
-shared-slice-read-borrowed : tie.Need-shared-slice-read-borrowed
-shared-slice-read-borrowed c = search needs
+shared-slice-read-held : tie.Need-shared-slice-read-held
+shared-slice-read-held c = search needs
 
 cast-result : tie.Need-cast-result
 cast-result c = search needs
@@ -76,8 +76,8 @@ off-piece-spec =
     returns
     decreases-requires
     word-of-requires
-    mul-borrowed
-    shared-slice-read-borrowed
+    mul-held
+    shared-slice-read-held
     cast-result
     returns-2
     returns-3)
