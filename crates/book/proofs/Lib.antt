@@ -4,3 +4,4 @@ pub mod Judged
 pub mod Rows
 pub mod Causes
 pub mod Posted
+pub mod Pieces

@@ -24,7 +24,7 @@ pub data Call : Type 0 where
   transfer : TransferArguments → Call
   close : Arguments → Call
 
--- A transfer in the form without limits keeps the published numbers.
+-- A transfer in the form without limits keeps the published numbers; it is lent pieces as every transfer is.
 abbrev pub publishedTransfer : List ℕ → Arguments → Call
 publishedTransfer pieces a = transfer (record { message = a .message; buffer = a .buffer; limits = maximumNumbers; pieces = pieces })
 

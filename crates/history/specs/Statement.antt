@@ -1,12 +1,12 @@
 -- Demand 3, in words. Take any calendar, tables, balances and opening day for which opening is accepted, and any list of transfer and close
--- calls, refused ones included; each transfer is lent date limits, published or others, the same all through or not; each call gets the
--- book and balances that the last one left. Then every answer (number, book, claim count, claim buffer with the bytes behind the records as
--- found) and the day, count and balances after the list are those of the ledger of accepted calls. For any two accounts and security the
--- par lent and the accepted decreases together are the accepted increases, on loan and on repo apart. The records, read back from the claim
--- buffers, add up to what the history owes, interest and principal apart: for every payer, payee and security, for each row of it, and for
--- each claim type on each row, so that claims on par on loan and claims on par on repo pay each their own. Every Record Date passed is
--- crossed exactly once, no transfer claims a Beneficiary Date twice, be it as failed or as interim, its claims come in row order, no close
--- claims a row twice, and a call is refused exactly when a cause of its table applies, and then changes nothing.
+-- calls, refused ones included; each transfer is lent date limits, published or others, and minimum pieces, the same all through or not;
+-- each call gets the book and balances that the last one left. Then every answer (number, book, claim count, claim buffer with the bytes
+-- behind the records as found) and the day, count and balances after the list are those of the ledger of accepted calls. For any two
+-- accounts and security the par lent and the accepted decreases together are the accepted increases, on loan and on repo apart. The records,
+-- read back from the claim buffers, add up to what the history owes, interest and principal apart: for every payer, payee and security, for
+-- each row of it, and for each claim type on each row, so that claims on par on loan and claims on par on repo pay each their own. Every
+-- Record Date passed is crossed exactly once, no transfer claims a Beneficiary Date twice, be it as failed or as interim, its claims come in
+-- row order, no close claims a row twice, and a call is refused exactly when a cause of its table applies, and then changes nothing.
 use mathlib.Core.Path.{_≡_}
 use mathlib.Core.Logic.{_↔_, _≢_}
 use mathlib.Core.Bool.{Bool, true, cond, _&&_}

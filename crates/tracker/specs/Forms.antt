@@ -1,5 +1,6 @@
--- Transfer and close have two forms: the book by value, and the caller's own book, which the call updates. One promise, `Gives`,
--- says what both give and leave, so on the same values they give and leave the same. A transfer by value has a further form, which is lent date limits.
+-- Transfer and close have two forms: the book by value, and the caller's own book, which the call updates. One promise, `Gives`, says what
+-- both give and leave, so on the same values they give and leave the same. A transfer by value has a further form, which is lent date
+-- limits. Every form of the transfer is lent pieces.
 use mathlib.Core.Path.{_≡_}
 use mathlib.Core.Logic.{_≢_}
 use mathlib.Core.List.{List, [], _∷_}
@@ -29,7 +30,8 @@ FormsAgree = (calendar tables : List ℕ) (book : Book) (balances : List ℕ) (c
     (own : Book) (buffer′ after′ : List ℕ) → Gives calendar tables book balances call d buffer after
     → Gives calendar tables book balances call (together r own) buffer′ after′ → Same d buffer after (together r own) buffer′ after′
 
--- On the same values a transfer that is lent the published numbers and one in the form without limits give and leave the same.
+-- On the same values, pieces among them, a transfer that is lent the published numbers and one in the form without limits give and leave
+-- the same.
 abbrev pub PublishedFormAgrees : Type 0
 PublishedFormAgrees = (calendar tables pieces : List ℕ) (book : Book) (balances message found : List ℕ) (d d′ : Done) (buffer after buffer′ after′ : List ℕ)
     → Gives calendar tables book balances (transfer (record { message = message; buffer = found; limits = 7 ∷ 6 ∷ 3 ∷ 2 ∷ 1 ∷ []; pieces = pieces })) d buffer after

@@ -1,6 +1,6 @@
 -- Lists of calls in the second form. Each call keeps its contract on the caller's own book and balances as the last one left them.
--- Demand 3 holds of such a list as it holds of the by-value calls. A transfer of the second form has the published limits; a transfer with
--- other limits, by value, may stand in the list too, if the caller's book becomes the one that it returns.
+-- Demand 3 holds of such a list as it holds of the by-value calls. A transfer of the second form has the published limits and pieces of its
+-- own; a transfer with other limits, by value, may stand in the list too, if the caller's book becomes the one that it returns.
 use mathlib.Core.Path.{_≡_}
 use mathlib.Core.List.{List, [], _∷_}
 use Prim.Native.Nat.{ℕ}

@@ -20,8 +20,8 @@ pub extern "C" fn claim_tracker_open(
     opens::open(calendar, tables, balances, day)
 }
 
-// Works a transfer with the published maximum numbers: posts its par, and writes its claims from the claim buffer's start. Refused, it
-// returns the first number that applies and the book given, and leaves balances and claim buffer.
+// Works a transfer with the published maximum numbers: judges its par by the pieces of the securities, posts it, and writes its claims from
+// the claim buffer's start. Refused, it returns the first number that applies and the book given, and leaves balances and claim buffer.
 #[no_mangle]
 pub extern "C" fn claim_tracker_transfer(
     calendar: &[u32],

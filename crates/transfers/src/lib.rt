@@ -213,7 +213,8 @@ pub fn transfer_sound(
 ) -> Done
     requires { ⌜ firstOf (bookCauses (now calendar) (now tables) (book .day) (now balances)) ≡ 0 ⌝ }
     ensures { λ r. ⌜ Gives (now (calendar .entry)) (now (tables .entry)) book (now (balances .entry))
-        (publishedTransfer ones (record { message = now (message .entry); buffer = now (claims .entry) })) r (now (claims .exit)) (now (balances .exit)) ⌝ }
+        (publishedTransfer ones (record { message = now (message .entry); buffer = now (claims .entry) }))
+        r (now (claims .exit)) (now (balances .exit)) ⌝ }
 {
     let numbers = MAXIMUM_NUMBERS;
     let ones = [1u32; 16];
