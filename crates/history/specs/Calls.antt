@@ -24,9 +24,12 @@ pub data Call : Type 0 where
   transfer : TransferArguments → Call
   close : Arguments → Call
 
--- A transfer in the form without limits keeps the published numbers; it is lent pieces as every transfer is.
+-- A transfer that is lent limits and pieces; in the form without limits it keeps the published numbers.
+abbrev pub lentTransfer : List ℕ → List ℕ → Arguments → Call
+lentTransfer limits pieces a = transfer (record { message = a .message; buffer = a .buffer; limits = limits; pieces = pieces })
+
 abbrev pub publishedTransfer : List ℕ → Arguments → Call
-publishedTransfer pieces a = transfer (record { message = a .message; buffer = a .buffer; limits = maximumNumbers; pieces = pieces })
+publishedTransfer pieces a = lentTransfer maximumNumbers pieces a
 
 unfoldable pub bufferOf : Call → List ℕ
 bufferOf (transfer a) = a .buffer

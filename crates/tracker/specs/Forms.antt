@@ -8,7 +8,7 @@ use Prim.Native.Nat.{ℕ, _+_}
 use Rattle.days.specs.Days.{openAfter}
 use Rattle.book.specs.declared.Book.{Book}
 use Rattle.book.specs.declared.Done.{Done}
-use Rattle.history.specs.Calls.{Arguments, TransferArguments, Call, transfer, close, publishedTransfer, bufferOf}
+use Rattle.history.specs.Calls.{Arguments, TransferArguments, Call, transfer, close, lentTransfer, publishedTransfer, bufferOf}
 use Rattle.history.specs.Results.{Gives}
 use Rattle.tracker.specs.declared.own_book.Reply.{Reply}
 
@@ -34,7 +34,7 @@ FormsAgree = (calendar tables : List ℕ) (book : Book) (balances : List ℕ) (c
 -- the same.
 abbrev pub PublishedFormAgrees : Type 0
 PublishedFormAgrees = (calendar tables pieces : List ℕ) (book : Book) (balances message found : List ℕ) (d d′ : Done) (buffer after buffer′ after′ : List ℕ)
-    → Gives calendar tables book balances (transfer (record { message = message; buffer = found; limits = 7 ∷ 6 ∷ 3 ∷ 2 ∷ 1 ∷ []; pieces = pieces })) d buffer after
+    → Gives calendar tables book balances (lentTransfer (7 ∷ 6 ∷ 3 ∷ 2 ∷ 1 ∷ []) pieces (record { message = message; buffer = found })) d buffer after
     → Gives calendar tables book balances (publishedTransfer pieces (record { message = message; buffer = found })) d′ buffer′ after′
     → Same d buffer after d′ buffer′ after′
 

@@ -1,6 +1,6 @@
 // Opening, transfer and close for C and Rust callers. A slice passes as a pointer and a count of its elements.
 ghost use mathlib.Core.Path.{_≡_};
-ghost use Rattle.history.specs.Calls.{Call, publishedTransfer};
+ghost use Rattle.history.specs.Calls.{Call, lentTransfer, publishedTransfer};
 ghost use Rattle.history.specs.Results.{Gives, leftOpen, opened};
 use book::Book;
 use book::Done;
@@ -53,12 +53,7 @@ pub extern "C" fn claim_tracker_transfer_with_limits(
     claims: &mut [u8],
 ) -> Done
     ensures { λ r. ⌜ Gives (now (calendar .entry)) (now (tables .entry)) book (now (balances .entry))
-        (Call.transfer (record {
-          message = now (message .entry);
-          buffer = now (claims .entry);
-          limits = now (limits .entry);
-          pieces = now (pieces .entry);
-        }))
+        (lentTransfer (now (limits .entry)) (now (pieces .entry)) (record { message = now (message .entry); buffer = now (claims .entry) }))
         r (now (claims .exit)) (now (balances .exit)) ⌝ }
 {
     transfers::transfer_with_limits(

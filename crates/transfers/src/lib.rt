@@ -9,7 +9,7 @@ ghost use Rattle.lists.specs.First.{firstOf};
 ghost use Rattle.records.specs.MessageRecords.{transferKind, transferOf, reads};
 ghost use Rattle.securities.specs.Lent.{goodPieces, ones};
 ghost use Rattle.book.specs.Soundness.{bookCauses, lentBookCauses};
-ghost use Rattle.history.specs.Calls.{Call, publishedTransfer};
+ghost use Rattle.history.specs.Calls.{lentTransfer, publishedTransfer};
 ghost use Rattle.history.specs.Causes.{outOfRange, transferCauses};
 ghost use Rattle.history.specs.Results.{Gives};
 use book::Book;
@@ -100,12 +100,7 @@ fn transfer_read(
     requires { ⌜ (firstOf (lentBookCauses (now calendar) (now tables) (now limits) (now pieces) (book .day) (now balances)) ≡ 0)
         × (reads transferKind (now message) ≡ true) × (t ≡ transferOf (now message)) ⌝ }
     ensures { λ r. ⌜ Gives (now (calendar .entry)) (now (tables .entry)) book (now (balances .entry))
-        (Call.transfer (record {
-          message = now (message .entry);
-          buffer = now (claims .entry);
-          limits = now (limits .entry);
-          pieces = now (pieces .entry);
-        }))
+        (lentTransfer (now (limits .entry)) (now (pieces .entry)) (record { message = now (message .entry); buffer = now (claims .entry) }))
         r (now (claims .exit)) (now (balances .exit)) ⌝ }
 {
     let tag = tags::tag_of(reading::first_line(message), reading::second_line(message));
@@ -142,12 +137,7 @@ fn sound_with_limits(
 ) -> Done
     requires { ⌜ firstOf (lentBookCauses (now calendar) (now tables) (now limits) (now pieces) (book .day) (now balances)) ≡ 0 ⌝ }
     ensures { λ r. ⌜ Gives (now (calendar .entry)) (now (tables .entry)) book (now (balances .entry))
-        (Call.transfer (record {
-          message = now (message .entry);
-          buffer = now (claims .entry);
-          limits = now (limits .entry);
-          pieces = now (pieces .entry);
-        }))
+        (lentTransfer (now (limits .entry)) (now (pieces .entry)) (record { message = now (message .entry); buffer = now (claims .entry) }))
         r (now (claims .exit)) (now (balances .exit)) ⌝ }
 {
     let ReadTransfer::Is(t) = reading::read_transfer(message) else {
@@ -178,12 +168,7 @@ pub fn transfer_with_limits(
     claims: &mut [u8],
 ) -> Done
     ensures { λ r. ⌜ Gives (now (calendar .entry)) (now (tables .entry)) book (now (balances .entry))
-        (Call.transfer (record {
-          message = now (message .entry);
-          buffer = now (claims .entry);
-          limits = now (limits .entry);
-          pieces = now (pieces .entry);
-        }))
+        (lentTransfer (now (limits .entry)) (now (pieces .entry)) (record { message = now (message .entry); buffer = now (claims .entry) }))
         r (now (claims .exit)) (now (balances .exit)) ⌝ }
 {
     let number = judging::transfer_number(calendar, tables, limits, pieces, book.day, balances);
