@@ -29,7 +29,7 @@ goodLimits limits =
 
 -- ---- minimum pieces
 
--- Sixteen numbers, the piece of each security.
+-- Sixteen numbers, one for each security.
 abbrev pub pieceWords : ℕ
 pieceWords = 16
 
@@ -40,6 +40,7 @@ largestPiece = 1000000
 unfoldable pub goodPieces : List ℕ → Bool
 goodPieces pieces = eqb (length pieces) pieceWords && all (fromOneTo largestPiece) pieces
 
+-- The piece of a security. Good pieces have a number for every security of the book; where a list has none it is 1.
 unfoldable pub pieceOf : List ℕ → ℕ → ℕ
 pieceOf pieces s = getD pieces s 1
 
