@@ -4,7 +4,8 @@ ghost use mathlib.Core.Path.{_≡_};
 ghost use mathlib.Core.Bool.{true};
 ghost use Prim.Native.Nat.{_+_, _*_, _-_, _≤_, _<_};
 ghost use lib.ListN.{length, drop};
-ghost use Rattle.days.specs.Days.{isDate, leapDay, monthLength, checked, wordOf, dateOf, badFrom, badCalendar, isOpen, lowestFrom, seekFrom, openAt, openAfter, openFrom, lastOpen, asDay};
+ghost use Rattle.days.specs.Days.{isDate, leapDay, monthLength, checked, wordOf, dateOf, badFrom, badCalendar};
+ghost use Rattle.days.specs.Days.{isOpen, lowestFrom, seekFrom, openAt, openAfter, openFrom, lastOpen, asDay};
 
 // A date: the number yyyymmdd.
 pub struct Date(pub u32);

@@ -171,13 +171,13 @@ unfolding goodPieces
 sixteen-pieces pieces e = eqb-true (length pieces) 16 (and-left _ (all (fromOneTo 1000000) pieces) e)
 
 -- none is 0
-pub piece-some : (pieces : List ℕ) (s : ℕ) → goodPieces pieces ≡ true → s < 16 → 1 ≤ pieceOf pieces s
-unfolding goodPieces fromOneTo pieceOf
+pub piece-some : (pieces : List ℕ) (s : ℕ) → goodPieces pieces ≡ true → s < 16 → 0 < getD pieces s 0
+unfolding goodPieces fromOneTo
 piece-some pieces s e h =
     let n = sixteen-pieces pieces e in
-    leb-true 1 _ (and-left _ _ (all-at (fromOneTo 1000000) pieces 1 (and-right (eqb (length pieces) 16) _ e) s (omega (arith, n))))
+    leb-true 1 _ (and-left _ _ (all-at (fromOneTo 1000000) pieces 0 (and-right (eqb (length pieces) 16) _ e) s (omega (arith, n))))
 
--- each is read as it is
+-- each is read as it is, whatever stands for a number that is not there
 read-any : (xs : List ℕ) (k d e : ℕ) → k < length xs → getD xs k d ≡ getD xs k e
 read-any [] k d e h = absurd (not-suc-le-zero h)
 read-any (x ∷ xs) zero d e h = refl

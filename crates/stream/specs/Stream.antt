@@ -10,7 +10,7 @@ use Rattle.records.specs.MessageRecords.{transferKind, closeKind, answerKind, s
 use Rattle.securities.specs.Lent.{ones}
 use Rattle.claims.specs.Written.{claimSize}
 use Rattle.book.specs.declared.Book.{Book}
-use Rattle.history.specs.Calls.{Call, close, publishedTransfer}
+use Rattle.history.specs.Calls.{Arguments, Call, close, publishedTransfer}
 use Rattle.history.specs.Results.{Answer, run}
 use Rattle.stream.specs.declared.Next.{Next}
 use Rattle.stream.specs.declared.Next.the-variants.{Waiting, Wrong, Record}
@@ -36,7 +36,8 @@ claimRoom = 65536
 -- The call that a record asks for, with a claim buffer. A transfer keeps the published limits and is lent ones as pieces.
 unfoldable pub callWith : List ℕ → List ℕ → Call
 callWith buffer message =
-    cond (reads closeKind message) (close (record { message = message; buffer = buffer })) (publishedTransfer ones (record { message = message; buffer = buffer }))
+    let a : Arguments = record { message = message; buffer = buffer } in
+    cond (reads closeKind message) (close a) (publishedTransfer ones a)
 
 -- What a claim buffer holds before a call does not show in what is written for it, so it is taken as zeros.
 unfoldable pub callFor : List ℕ → Call
