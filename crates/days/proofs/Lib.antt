@@ -4,4 +4,5 @@ pub mod Parts
 pub mod Bits
 pub mod Months
 pub mod OpenDays
+pub mod HalfYear
 pub mod Rows

@@ -1,5 +1,5 @@
 -- Computed rows: the Monday-to-Friday calendar at month ends, year ends, leap days and its last days, numbers that are no dates, a
--- calendar with no open day, and calendars that break the rule.
+-- calendar with no open day, calendars that break the rule, and days six months earlier.
 use mathlib.Core.Path.{_≡_, refl}
 use mathlib.Core.Bool.{Bool, true, cond, not, _&&_}
 use mathlib.Core.List.{List, [], _∷_}
@@ -9,6 +9,7 @@ use lib.ListN.{set, replicate, length}
 use Rattle.lists.specs.All.{all}
 use Rattle.days.specs.Days.{badCalendar, isOpen, openAfter, openFrom, lastOpen}
 use Rattle.days.specs.Weekdays.{weekdays}
+use Rattle.days.specs.MemoDay.{beforeMemo, sixMonthsBefore}
 use Rattle.days.proofs.Opened.{openedDays}
 
 -- a day; whether it is open, as 1 or 0; the first open day after it, and the first on or after it, 0 for none
@@ -81,6 +82,41 @@ calendars =
     && eqb (lastOpen (set closed 13 3)) 20010202
     && eqb (openAfter (set closed 479 (2 ^ 30)) 20000101) 20391231
 
-rows-hold : all holds rows && calendars ≡ true
-unfolding openedDays holds rows calendars closed broken
+-- ---- six months earlier
+
+-- a day, and the same day six months earlier or its month's last
+record HalfYear : Type 0 where
+  day : ℕ
+  earlier : ℕ
+
+abbrev half : ℕ → ℕ → HalfYear
+half d e = record { day = d; earlier = e }
+
+-- a month as long, a shorter one, a February with the leap day and without; from either half of a year; before 2000
+halfYears : List HalfYear
+halfYears =
+    half 20220831 20220228
+    ∷ half 20200831 20200229
+    ∷ half 20200829 20200229
+    ∷ half 20220828 20220228
+    ∷ half 20220829 20220228
+    ∷ half 20220901 20220301
+    ∷ half 20220630 20211230
+    ∷ half 20220701 20220101
+    ∷ half 20220331 20210930
+    ∷ half 20221231 20220630
+    ∷ half 20221130 20220530
+    ∷ half 20230127 20220727
+    ∷ half 20000131 19990731
+    ∷ half 20000229 19990829
+    ∷ half 20000331 19990930
+    ∷ half 20000815 20000215
+    ∷ []
+
+-- the last day before the memo and the first under it
+memoDays : Bool
+memoDays = beforeMemo 20230129 && not (beforeMemo 20230130) && beforeMemo 20000101 && not (beforeMemo 20391231)
+
+rows-hold : all holds rows && calendars && all (λ h. eqb (sixMonthsBefore (h .day)) (h .earlier)) halfYears && memoDays ≡ true
+unfolding openedDays holds rows calendars closed broken halfYears memoDays
 rows-hold = refl

@@ -1,2 +1,3 @@
 pub mod Days
 pub mod Weekdays
+pub mod MemoDay

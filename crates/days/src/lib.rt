@@ -6,6 +6,7 @@ ghost use Prim.Native.Nat.{_+_, _*_, _-_, _≤_, _<_};
 ghost use lib.ListN.{length, drop};
 ghost use Rattle.days.specs.Days.{isDate, leapDay, monthLength, checked, wordOf, dateOf, badFrom, badCalendar};
 ghost use Rattle.days.specs.Days.{isOpen, lowestFrom, seekFrom, openAt, openAfter, openFrom, lastOpen, asDay};
+ghost use Rattle.days.specs.MemoDay.{beforeMemo, dayWithin, sixMonthsBefore};
 
 // A date: the number yyyymmdd.
 pub struct Date(pub u32);
@@ -61,7 +62,7 @@ impl Date {
 
 // The leap day of year y, 1 or 0. Every fourth year has one, 2000 too, the only hundred here: 4 - y % 4 is 4 then, and less in the others.
 fn leap_day(y: u32) -> u32
-    requires { ⌜ (2000 ≤ y) × (y < 2040) ⌝ }
+    requires { ⌜ (1999 ≤ y) × (y < 2040) ⌝ }
     ensures { λ r. ⌜ r ≡ leapDay y ⌝ }
 {
     (4 - y % 4) / 4
@@ -71,7 +72,7 @@ fn leap_day(y: u32) -> u32
 // Long are the odd months up to July and the even ones from August on, since from there on m / 8 is 1.
 // Counted from March as 0, February is 11, the last, so dividing by 11 gives 1 for February and 0 for every other month.
 pub fn month_length(y: u32, m: u32) -> u32
-    requires { ⌜ (2000 ≤ y) × (y < 2040) × (1 ≤ m) × (m ≤ 12) ⌝ }
+    requires { ⌜ (1999 ≤ y) × (y < 2040) × (1 ≤ m) × (m ≤ 12) ⌝ }
     ensures { λ r. ⌜ r ≡ monthLength y m ⌝ }
 {
     let long = (m + m / 8) % 2;
@@ -220,4 +221,40 @@ pub fn last_open(calendar: &[u32]) -> Day
         }
     }
     Day::Nothing
+}
+
+// The first day under the 2023 memo.
+const MEMO_DAY: u32 = 20230130;
+
+// Whether a day is before the 2023 memo.
+pub fn before_memo(day: u32) -> bool
+    ensures { λ r. ⌜ r ≡ beforeMemo day ⌝ }
+{
+    day < MEMO_DAY
+}
+
+// Day d of month m of year y, or that month's last day if it is shorter.
+fn day_within(y: u32, m: u32, d: u32) -> u32
+    requires { ⌜ (1999 ≤ y) × (y < 2040) × (1 ≤ m) × (m ≤ 12) × (d ≤ 31) ⌝ }
+    ensures { λ r. ⌜ r ≡ dayWithin y m d ⌝ }
+{
+    let last = month_length(y, m);
+    if d <= last {
+        return y * 10000 + m * 100 + d;
+    }
+    y * 10000 + m * 100 + last
+}
+
+// The same day six months earlier, or that month's last day if it is shorter.
+pub fn six_months_before(n: u32) -> u32
+    requires { ⌜ isDate n ≡ true ⌝ }
+    ensures { λ r. ⌜ r ≡ sixMonthsBefore n ⌝ }
+{
+    let y = n / 10000;
+    let m = n / 100 % 100;
+    let d = n % 100;
+    if 6 < m {
+        return day_within(y, m - 6, d);
+    }
+    day_within(y - 1, m + 6, d)
 }
