@@ -13,7 +13,7 @@ use Rattle.days.specs.declared.Checked.{Checked}
 use Rattle.days.specs.declared.Checked.the-variants.{Is, Not}
 use Rattle.days.specs.Days.{checked}
 use Rattle.days.proofs.Parts.{is-date, not-date}
-use Rattle.tags.specs.declared.Tag.the-variants.{Absent, Several, Unended, NotDate, On}
+use Rattle.tags.specs.declared.Tag.the-variants.{Absent, Several, Unended, Empty, NotDate, On}
 use Rattle.tags.specs.ContractDateTag.{openers, endFrom, isDigit, digitsNumber, writesDate, tagHolding, tagAt, tagOf}
 
 -- ---- what a tag holds
@@ -46,9 +46,14 @@ module _ (line : List ℕ) (at : ℕ) {end : ℕ} (e : end ≡ endFrom line (at 
   unfolding tagAt
   at-unended h = rw (← e, le-leb (length line) end h)
 
-  pub at-ended : end < length line → tagHolding (part (at + 10) (end - (at + 10)) line) ≡ tagAt line at
-  unfolding tagAt
-  at-ended h = rw (← e, lt-leb (length line) end h)
+  module _ (h : end < length line) where
+    pub at-empty : end ≡ at + 10 → Empty ≡ tagAt line at
+    unfolding tagAt
+    at-empty z = rw (← e, lt-leb (length line) end h, eq-eqb end (at + 10) z)
+
+    pub at-filled : (end ≡ at + 10 → ⊥) → tagHolding (part (at + 10) (end - (at + 10)) line) ≡ tagAt line at
+    unfolding tagAt
+    at-filled n = rw (← e, lt-leb (length line) end h, ne-eqb end (at + 10) n)
 
 -- ---- the tag of two lines
 

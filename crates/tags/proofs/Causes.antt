@@ -9,7 +9,7 @@ use borrow.Author.Tests.{eq-eqb, ne-eqb, le-ltb, lt-ltb, ltb-true, ltb-false, eq
 use Rattle.lists.specs.First.{cause, firstOf, numbered, appliesAt, hit, skip, none}
 use Rattle.days.specs.declared.Date.{Date}
 use Rattle.tags.specs.declared.Tag.{Tag}
-use Rattle.tags.specs.declared.Tag.the-variants.{Absent, Several, Unended, NotDate, On}
+use Rattle.tags.specs.declared.Tag.the-variants.{Absent, Several, Unended, Empty, NotDate, On}
 use Rattle.tags.specs.ContractDateTag.{tagged, contractDate, isSeveral, isUnended, isNotDate, editCauses}
 
 -- ---- the number, case by case
@@ -26,6 +26,10 @@ module _ (class day : ℕ) where
   pub unended-number : firstOf (editCauses Unended class day) ≡ 133
   unfolding firstOf editCauses isSeveral isUnended
   unended-number = refl
+
+  pub empty-number : firstOf (editCauses Empty class day) ≡ 135
+  unfolding firstOf editCauses isSeveral isUnended isNotDate
+  empty-number = refl
 
   pub not-date-number : firstOf (editCauses NotDate class day) ≡ 135
   unfolding firstOf editCauses isSeveral isUnended isNotDate
@@ -88,6 +92,7 @@ abbrev pub Passed : Tag → ℕ → ℕ → Type 0
 Passed Absent class day = Unit {0}
 Passed Several class day = ⊥
 Passed Unended class day = ⊥
+Passed Empty class day = ⊥
 Passed NotDate class day = ⊥
 Passed (On d) class day = (d .0 ≤ day) × (class ≡ 1 → d .0 ≡ day)
 
@@ -95,6 +100,7 @@ pub passed : (tag : Tag) (class day : ℕ) → firstOf (editCauses tag class day
 passed Absent class day e = tt
 passed Several class day e = absurd (omega (arith, several-number class day))
 passed Unended class day e = absurd (omega (arith, unended-number class day))
+passed Empty class day e = absurd (omega (arith, empty-number class day))
 passed NotDate class day e = absurd (omega (arith, not-date-number class day))
 passed (On d) class day e = go (ltb day (d .0)) refl
   where
@@ -112,6 +118,7 @@ pub passed-accepted : (tag : Tag) (class day : ℕ) → Passed tag class day →
 passed-accepted Absent class day p = absent-accepted class day
 passed-accepted Several class day p = absurd p
 passed-accepted Unended class day p = absurd p
+passed-accepted Empty class day p = absurd p
 passed-accepted NotDate class day p = absurd p
 passed-accepted (On d) class day p = go (eqb class 1) refl
   where
@@ -128,6 +135,7 @@ unfolding contractDate
 accepted-date Absent class day e = omega arith
 accepted-date Several class day e = omega arith
 accepted-date Unended class day e = omega arith
+accepted-date Empty class day e = omega arith
 accepted-date NotDate class day e = omega arith
 accepted-date (On d) class day e = passed (On d) class day e .0
 
@@ -136,5 +144,6 @@ unfolding tagged contractDate
 accepted-other Absent day e t = absurd (differ t)
 accepted-other Several day e t = absurd (differ t)
 accepted-other Unended day e t = absurd (differ t)
+accepted-other Empty day e t = absurd (differ t)
 accepted-other NotDate day e t = absurd (differ t)
 accepted-other (On d) day e t = passed (On d) 1 day e .1 refl

@@ -5,6 +5,7 @@ pub mod Ends
 pub mod Digits
 pub mod Answers
 pub mod Tags
+pub mod OnDay
 pub mod Causes
 pub mod Rows
 pub mod Quick

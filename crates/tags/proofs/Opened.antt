@@ -2,8 +2,8 @@
 use Prim.Native.Nat.{ℕ}
 use Rattle.lists.proofs.Opened.{openedLists}
 use Rattle.days.proofs.Opened.{openedDays}
-use Rattle.tags.specs.ContractDateTag.{opener, same, openersFrom, openers, endIn, endFrom, isDigit, digitsAfter, digitsNumber, writesDate, tagHolding, tagAt, tagOf, tagged, contractDate, isSeveral, isUnended, isNotDate, editCauses}
+use Rattle.tags.specs.ContractDateTag.{opener, same, openersFrom, openers, endIn, endFrom, isDigit, digitsAfter, digitsNumber, writesDate, tagHolding, tagAt, tagOf, onDay, tagged, contractDate, isSeveral, isUnended, isNotDate, editCauses}
 
 unfoldable pub openedTags : ℕ
-unfolding openedLists openedDays opener same openersFrom openers endIn endFrom isDigit digitsAfter digitsNumber writesDate tagHolding tagAt tagOf tagged contractDate isSeveral isUnended isNotDate editCauses
+unfolding openedLists openedDays opener same openersFrom openers endIn endFrom isDigit digitsAfter digitsNumber writesDate tagHolding tagAt tagOf onDay tagged contractDate isSeveral isUnended isNotDate editCauses
 openedTags = 0

@@ -1,5 +1,5 @@
--- Computed rows: tags in either line, across both, at a line's end, without a }, several of them, tags that are not a date, and the edits
--- at C and the day.
+-- Computed rows: tags in either line, across both, at a line's end, without a }, several of them, empty ones on either side of the 2023
+-- memo, tags that are not a date, and the edits at C and the day.
 use mathlib.Core.Path.{_≡_, refl}
 use mathlib.Core.Bool.{Bool, true, _&&_}
 use mathlib.Core.List.{List, [], _∷_, _++_}
@@ -9,7 +9,7 @@ use lib.ListN.{length, replicate}
 use Rattle.lists.specs.All.{all}
 use Rattle.lists.specs.Put.{put}
 use Rattle.lists.specs.First.{firstOf}
-use Rattle.tags.specs.ContractDateTag.{tagOf, contractDate, editCauses}
+use Rattle.tags.specs.ContractDateTag.{tagOf, onDay, contractDate, editCauses}
 use Rattle.tags.proofs.Digits.{written}
 use Rattle.tags.proofs.Opened.{openedTags}
 
@@ -28,7 +28,7 @@ blank = replicate 64 32
 line : ℕ → List ℕ → List ℕ
 line at bs = put blank at bs
 
--- the two lines, the class and the day; the Contract Date, 0 for none, and the number of the edit, 0 for none
+-- the two lines, the class and the day; the Contract Date on that day, 0 for none, and the number of the edit, 0 for none
 record Row : Type 0 where
   first : List ℕ
   second : List ℕ
@@ -63,11 +63,31 @@ atEnd =
     ∷ row blank (line 54 mark) 0 20230404 0 133
     ∷ []
 
--- } straight after the opener
+-- } straight after the opener: from the 2023 memo on, and before it, when it means the day, for class 1 too
 empty : List Row
 empty =
     row (line 53 (tag [])) blank 0 20230404 0 135
     ∷ row blank (line 0 (tag [])) 0 20230404 0 135
+    ∷ row (line 0 (tag [])) blank 0 20230130 0 135
+    ∷ row (line 0 (tag [])) blank 1 20230130 0 135
+    ∷ row (line 0 (tag [])) blank 0 20230129 20230129 0
+    ∷ row (line 53 (tag [])) blank 1 20230127 20230127 0
+    ∷ row blank (line 0 (tag [])) 0 20000103 20000103 0
+    ∷ row (line 0 (tag [] ++ (125 ∷ []))) blank 0 20230127 20230127 0
+    ∷ []
+
+-- before the memo: a blank before the }, eight blanks, a date before 2000, two empty tags, one with no }, no tag, and dates as on later days
+earlier : List Row
+earlier =
+    row (line 0 (tag (32 ∷ []))) blank 0 20230127 0 135
+    ∷ row (line 0 (tag (replicate 8 32))) blank 0 20230127 0 135
+    ∷ row (line 0 (tag (written 19991231))) blank 0 20000103 0 135
+    ∷ row (line 0 (tag [])) (line 0 (tag [])) 0 20230127 0 132
+    ∷ row (line 54 mark) (line 0 (125 ∷ [])) 0 20230127 0 133
+    ∷ row blank blank 1 20230127 0 0
+    ∷ row (line 0 (tag (written 20230126))) blank 0 20230127 20230126 0
+    ∷ row (line 0 (tag (written 20230128))) blank 0 20230127 20230128 138
+    ∷ row (line 0 (tag (written 20230126))) blank 1 20230127 20230126 139
     ∷ []
 
 -- no } after the opener, one in the other line, one before the opener
@@ -133,13 +153,13 @@ otherClass =
 
 holds : Row → Bool
 holds r =
-    let t = tagOf (r .first) (r .second) in
+    let t = onDay (r .day) (tagOf (r .first) (r .second)) in
     eqb (contractDate t) (r .date) && eqb (firstOf (editCauses t (r .class) (r .day))) (r .number) && eqb (length (r .first)) 64
     && eqb (length (r .second)) 64
 
 rows : List Row
-rows = plain ++ missing ++ atEnd ++ empty ++ unended ++ ends ++ several ++ notDigits ++ notDates ++ late ++ otherClass
+rows = plain ++ missing ++ atEnd ++ empty ++ earlier ++ unended ++ ends ++ several ++ notDigits ++ notDates ++ late ++ otherClass
 
 rows-hold : all holds rows ≡ true
-unfolding openedTags holds rows plain missing atEnd empty unended ends several notDigits notDates late otherClass mark tag blank line
+unfolding openedTags holds rows plain missing atEnd empty earlier unended ends several notDigits notDates late otherClass mark tag blank line
 rows-hold = refl

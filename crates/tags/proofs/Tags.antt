@@ -3,11 +3,11 @@ use mathlib.Core.Path.{_≡_, refl, sym, ap, _∙_, subst}
 use mathlib.Core.Bool.{Bool, true, false, cond}
 use mathlib.Core.List.{List, [], _∷_, List·Memᴰ·head}
 use Prim.Native.Nat.{ℕ, _+_, _-_, _≤_, _<_}
-use native.Mathlib.Nat.{le-refl}
+use native.Mathlib.Nat.{le-refl, le-antisymm, lt-of-not-le}
 use native.Mathlib.Omega.{arith}
 use lib.Dec.{eqb, leb}
 use lib.ListN.{length, getD}
-use borrow.Author.Tests.{eqb-true, leb-true, leb-false}
+use borrow.Author.Tests.{eqb-true, eqb-false, leb-true, leb-false}
 use Rattle.lists.specs.Tests.{and-left, and-right}
 use Rattle.lists.specs.All.{all}
 use Rattle.lists.specs.Fields.{part, part-length}
@@ -15,12 +15,12 @@ use Rattle.days.specs.declared.Date.{Date}
 use Rattle.days.specs.Days.{isDate}
 use Rattle.days.proofs.Parts.{parts}
 use Rattle.tags.specs.declared.Tag.{Tag}
-use Rattle.tags.specs.declared.Tag.the-variants.{Absent, Several, Unended, NotDate, On}
+use Rattle.tags.specs.declared.Tag.the-variants.{Absent, Several, Unended, Empty, NotDate, On}
 use Rattle.tags.specs.ContractDateTag.{openers, endFrom, isDigit, digitsNumber, writesDate, tagHolding, tagAt, tagOf, tagged, contractDate}
 use Rattle.tags.proofs.Openers.{opener-there}
 use Rattle.tags.proofs.Ends.{EndAt, NoEnd, end-at, end-none, at-end, none-end}
 use Rattle.tags.proofs.Digits.{written, digits-written, written-number, written-digits}
-use Rattle.tags.proofs.Answers.{at-unended, at-ended, of-none, of-several, of-first, of-second}
+use Rattle.tags.proofs.Answers.{at-unended, at-empty, at-filled, of-none, of-several, of-first, of-second}
 
 -- The one opener of both lines together has this place in this line.
 pub data Sole (first second : List ℕ) : List ℕ → ℕ → Type 0 where
@@ -34,13 +34,21 @@ pub record UnendedTag (first second : List ℕ) : Type 0 where
   pub sole : Sole first second line place
   pub unended : NoEnd line (place + 10)
 
--- One opener, and what stands between it and the first } after it is not eight digits that are a date.
+-- One opener, and a } straight after it.
+pub record EmptyTag (first second : List ℕ) : Type 0 where
+  pub line : List ℕ
+  pub place : ℕ
+  pub sole : Sole first second line place
+  pub ended : EndAt line (place + 10) (place + 10)
+
+-- One opener, and what stands between it and the first } after it is something, and not eight digits that are a date.
 pub record OtherTag (first second : List ℕ) : Type 0 where
   pub line : List ℕ
   pub place : ℕ
   pub end : ℕ
   pub sole : Sole first second line place
   pub ended : EndAt line (place + 10) end
+  pub filled : place + 10 < end
   pub other : (n : ℕ) → isDate n ≡ true → part (place + 10) (end - (place + 10)) line ≡ written n → ⊥
 
 -- One opener, the first } after it behind eight bytes, and these write a date.
@@ -57,6 +65,7 @@ abbrev pub Says : List ℕ → List ℕ → Tag → Type 0
 Says first second Absent = (openers first ≡ []) × (openers second ≡ [])
 Says first second Several = 1 < length (openers first) + length (openers second)
 Says first second Unended = UnendedTag first second
+Says first second Empty = EmptyTag first second
 Says first second NotDate = OtherTag first second
 Says first second (On d) = DatedTag first second (d .0)
 
@@ -125,34 +134,46 @@ module _ {first second line : List ℕ} {at : ℕ} (s : Sole first second line a
           date = w .date;
         }
 
-    ended-other : (e : writesDate (held line at end) ≡ false) → OtherTag first second
-    ended-other e = record {
+    ended-empty : end ≡ at + 10 → EmptyTag first second
+    ended-empty h = record { line = line; place = at; sole = s; ended = subst (EndAt line (at + 10)) h a }
+
+    ended-other : (end ≡ at + 10 → ⊥) → (e : writesDate (held line at end) ≡ false) → OtherTag first second
+    ended-other h e = record {
       line = line;
       place = at;
       end = end;
       sole = s;
       ended = a;
+      filled = beyond (a .after);
       other = λ n d q. differ (sym e ∙ ap writesDate q ∙ date-writes n d);
     }
       where
+        beyond : at + 10 ≤ end → at + 10 < end
+        beyond l = lt-of-not-le (λ m. h (le-antisymm m l))
+
         differ : false ≡ true → ⊥
         differ p = let z : _≡_ {A = ℕ} 0 1 = cc in omega arith
 
-    ended-says : Says first second (tagHolding (held line at end))
+    ended-says : Says first second (cond (eqb end (at + 10)) Empty (tagHolding (held line at end)))
     unfolding tagHolding
-    ended-says = go (writesDate (held line at end)) refl
+    ended-says = empty (eqb end (at + 10)) refl
       where
-        go : (b : Bool) → writesDate (held line at end) ≡ b
+        go : (b : Bool) → writesDate (held line at end) ≡ b → (end ≡ at + 10 → ⊥)
             → Says first second (cond b (On (record { 0 = digitsNumber (held line at end) })) NotDate)
-        go true e = ended-date e
-        go false e = ended-other e
+        go true e h = ended-date e
+        go false e h = ended-other h e
+
+        empty : (b : Bool) → eqb end (at + 10) ≡ b
+            → Says first second (cond b Empty (cond (writesDate (held line at end)) (On (record { 0 = digitsNumber (held line at end) })) NotDate))
+        empty true e = ended-empty (eqb-true end (at + 10) e)
+        empty false e = go (writesDate (held line at end)) refl (eqb-false end (at + 10) e)
 
   at-says : Says first second (tagAt line at)
   unfolding tagAt
   at-says = go (leb (length line) (endFrom line (at + 10))) refl
     where
       go : (b : Bool) → leb (length line) (endFrom line (at + 10)) ≡ b
-          → Says first second (cond b Unended (tagHolding (held line at (endFrom line (at + 10)))))
+          → Says first second (cond b Unended (cond (eqb (endFrom line (at + 10)) (at + 10)) Empty (tagHolding (held line at (endFrom line (at + 10))))))
       go true e = record {
         line = line;
         place = at;
@@ -197,14 +218,19 @@ says-tag first second Several s = sym (of-several first second refl refl s)
 says-tag first second Unended s =
     sym (sole-tag (s .sole))
     ∙ sym (at-unended (s .line) (s .place) (sym (none-end (s .line) (s .place + 10) (sole-fits (s .sole)) (s .unended))) (le-refl _))
+says-tag first second Empty s =
+    sym (sole-tag (s .sole))
+    ∙ sym (at-empty (s .line) (s .place) (sym (at-end (s .line) (s .place + 10) (sole-fits (s .sole)) (s .ended))) (s .ended .within) refl)
 says-tag first second NotDate s =
     sym (sole-tag (s .sole))
-    ∙ sym (at-ended (s .line) (s .place) (sym (at-end (s .line) (s .place + 10) (sole-fits (s .sole)) (s .ended))) (s .ended .within))
+    ∙ sym (at-filled (s .line) (s .place) (sym (at-end (s .line) (s .place + 10) (sole-fits (s .sole)) (s .ended))) (s .ended .within)
+    (λ q. omega (arith, s .filled)))
     ∙ other-held _ (s .other)
 says-tag first second (On d) s =
     let k : s .place + 18 - (s .place + 10) ≡ 8 = omega arith in
     sym (sole-tag (s .sole))
-    ∙ sym (at-ended (s .line) (s .place) (sym (at-end (s .line) (s .place + 10) (sole-fits (s .sole)) (s .ended))) (s .ended .within))
+    ∙ sym (at-filled (s .line) (s .place) (sym (at-end (s .line) (s .place + 10) (sole-fits (s .sole)) (s .ended))) (s .ended .within)
+    (λ q. omega arith))
     ∙ ap tagHolding (ap (λ (n : ℕ). part (s .place + 10) n (s .line)) k ∙ s .digits) ∙ date-held (d .0) (s .date)
 
 -- ---- the Contract Date
@@ -221,6 +247,7 @@ unfolding tagged contractDate
 tagged-on Absent e = cc
 tagged-on Several e = cc
 tagged-on Unended e = cc
+tagged-on Empty e = cc
 tagged-on NotDate e = cc
 tagged-on (On d) e = refl
 
@@ -229,6 +256,7 @@ unfolding tagged contractDate
 untagged-zero Absent e = refl
 untagged-zero Several e = refl
 untagged-zero Unended e = refl
+untagged-zero Empty e = refl
 untagged-zero NotDate e = refl
 untagged-zero (On d) e = cc
 

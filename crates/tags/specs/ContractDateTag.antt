@@ -1,5 +1,5 @@
--- Document 01, section Contract Date tag: the openers in the two free text lines, what the tag of a transfer says, and its edits.
--- Lines are lists of bytes, and places in a line count from 0.
+-- Document 01, section Contract Date tag: the openers in the two free text lines, what the tag of a transfer says, and its edits; document
+-- 02, card 7: what an empty tag means on a day. Lines are lists of bytes, and places in a line count from 0.
 use mathlib.Core.Bool.{Bool, true, false, cond, not, _&&_}
 use mathlib.Core.List.{List, [], _∷_}
 use Prim.Native.Nat.{ℕ, suc, _+_, _-_, _*_}
@@ -9,8 +9,9 @@ use Rattle.lists.specs.All.{all}
 use Rattle.lists.specs.Fields.{part}
 use Rattle.lists.specs.First.{Cause, cause}
 use Rattle.days.specs.Days.{isDate}
+use Rattle.days.specs.MemoDay.{beforeMemo}
 use Rattle.tags.specs.declared.Tag.{Tag}
-use Rattle.tags.specs.declared.Tag.the-variants.{Absent, Several, Unended, NotDate, On}
+use Rattle.tags.specs.declared.Tag.the-variants.{Absent, Several, Unended, Empty, NotDate, On}
 
 -- ---- openers
 
@@ -68,12 +69,12 @@ writesDate bs = eqb (length bs) 8 && (all isDigit bs && isDate (digitsNumber bs)
 unfoldable pub tagHolding : List ℕ → Tag
 tagHolding bs = cond (writesDate bs) (On (record { 0 = digitsNumber bs })) NotDate
 
--- The tag whose opener has place at: it runs to the first } behind the opener.
+-- The tag whose opener has place at: it runs to the first } behind the opener, and is empty where this stands straight after it.
 unfoldable pub tagAt : List ℕ → ℕ → Tag
 tagAt line at =
     let start = at + 10 in
     let end = endFrom line start in
-    cond (leb (length line) end) Unended (tagHolding (part start (end - start) line))
+    cond (leb (length line) end) Unended (cond (eqb end start) Empty (tagHolding (part start (end - start) line)))
 
 -- The tag of a transfer's two lines.
 unfoldable pub tagOf : List ℕ → List ℕ → Tag
@@ -81,6 +82,15 @@ tagOf first second =
     let count = length (openers first) + length (openers second) in
     cond (eqb count 0) Absent (cond (ltb 1 count) Several (cond (eqb (length (openers first)) 1)
     (tagAt first (getD (openers first) 0 0)) (tagAt second (getD (openers second) 0 0))))
+
+-- The tag as the book's day takes it: on a day before the 2023 memo an empty one means the day itself.
+unfoldable pub onDay : ℕ → Tag → Tag
+onDay day Empty = cond (beforeMemo day) (On (record { 0 = day })) Empty
+onDay day Absent = Absent
+onDay day Several = Several
+onDay day Unended = Unended
+onDay day NotDate = NotDate
+onDay day (On d) = On d
 
 -- ---- what a tag says
 
@@ -90,6 +100,7 @@ tagged (On d) = true
 tagged Absent = false
 tagged Several = false
 tagged Unended = false
+tagged Empty = false
 tagged NotDate = false
 
 -- The Contract Date C, 0 where there is none.
@@ -98,6 +109,7 @@ contractDate (On d) = d .0
 contractDate Absent = 0
 contractDate Several = 0
 contractDate Unended = 0
+contractDate Empty = 0
 contractDate NotDate = 0
 
 -- There is more than one opener, both lines together.
@@ -105,6 +117,7 @@ unfoldable pub isSeveral : Tag → Bool
 isSeveral Several = true
 isSeveral Absent = false
 isSeveral Unended = false
+isSeveral Empty = false
 isSeveral NotDate = false
 isSeveral (On d) = false
 
@@ -113,12 +126,14 @@ unfoldable pub isUnended : Tag → Bool
 isUnended Unended = true
 isUnended Absent = false
 isUnended Several = false
+isUnended Empty = false
 isUnended NotDate = false
 isUnended (On d) = false
 
--- The tag is not a date.
+-- The tag is not a date; an empty one is none either.
 unfoldable pub isNotDate : Tag → Bool
 isNotDate NotDate = true
+isNotDate Empty = true
 isNotDate Absent = false
 isNotDate Several = false
 isNotDate Unended = false

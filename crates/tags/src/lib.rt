@@ -1,4 +1,4 @@
-// The Contract Date tag of a transfer's two free text lines, and its edits (document 01, section Contract Date tag).
+// The Contract Date tag of a transfer's two free text lines, and its edits (document 01, section Contract Date tag; document 02, card 7).
 // Every answer is a case of Tag; nothing is assumed of the bytes.
 ghost use mathlib.Core.Path.{_≡_};
 ghost use Prim.Native.Nat.{_+_, _≤_};
@@ -6,17 +6,19 @@ ghost use lib.ListN.{length, getD};
 ghost use Rattle.lists.specs.First.{firstOf};
 ghost use Rattle.lists.specs.Sums.{sum};
 ghost use Rattle.tags.specs.Quick.{braceOf};
-ghost use Rattle.tags.specs.ContractDateTag.{openers, endFrom, tagHolding, tagAt, tagOf, editCauses};
+ghost use Rattle.tags.specs.ContractDateTag.{openers, endFrom, tagHolding, tagAt, tagOf, onDay, editCauses};
 use days::Checked;
 use days::Date;
 
 const OPENER: [u8; 10] = *b"{98A:CNTR/";
 
-// What the Contract Date tag says: there is no opener; there are several; no } follows; what it holds is not a date; the date.
+// What the Contract Date tag says: there is no opener; there are several; no } follows; it follows at once; what it holds is not a date;
+// the date.
 pub enum Tag {
     Absent,
     Several,
     Unended,
+    Empty,
     NotDate,
     On(Date),
 }
@@ -144,11 +146,14 @@ fn tag_at(line: &[u8], at: usize) -> Tag
     if line.len() <= end {
         return Tag::Unended;
     }
+    if end == start {
+        return Tag::Empty;
+    }
     tag_holding(&line[start..end])
 }
 
 // The tag of a transfer's two lines.
-pub fn tag_of(first: &[u8], second: &[u8]) -> Tag
+fn tag_of(first: &[u8], second: &[u8]) -> Tag
     requires { ⌜ (length (now first) ≡ 64) × (length (now second) ≡ 64) ⌝ }
     ensures { λ r. ⌜ r ≡ tagOf (now (first .entry)) (now (second .entry)) ⌝ }
 {
@@ -167,6 +172,27 @@ pub fn tag_of(first: &[u8], second: &[u8]) -> Tag
     tag_at(second, b.first)
 }
 
+// The tag as the book's day takes it: before the 2023 memo an empty one means the day itself.
+fn on_day(day: u32, tag: Tag) -> Tag
+    ensures { λ r. ⌜ r ≡ onDay day tag ⌝ }
+{
+    let Tag::Empty = tag else {
+        return tag;
+    };
+    if days::before_memo(day) {
+        return Tag::On(Date(day));
+    }
+    Tag::Empty
+}
+
+// The tag of a transfer's two lines on the book's day.
+pub fn tag_on(day: u32, first: &[u8], second: &[u8]) -> Tag
+    requires { ⌜ (length (now first) ≡ 64) × (length (now second) ≡ 64) ⌝ }
+    ensures { λ r. ⌜ r ≡ onDay day (tagOf (now (first .entry)) (now (second .entry))) ⌝ }
+{
+    on_day(day, tag_of(first, second))
+}
+
 // The number of the first edit that refuses the transfer, 0 if none does.
 pub fn edits(tag: Tag, class: u8, day: u32) -> u16
     ensures { λ r. ⌜ r ≡ firstOf (editCauses tag class day) ⌝ }
@@ -175,6 +201,7 @@ pub fn edits(tag: Tag, class: u8, day: u32) -> u16
         Tag::Absent => 0,
         Tag::Several => 132,
         Tag::Unended => 133,
+        Tag::Empty => 135,
         Tag::NotDate => 135,
         Tag::On(date) => date_edits(date, class, day),
     }
