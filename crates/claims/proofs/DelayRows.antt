@@ -9,18 +9,18 @@ use Rattle.lists.specs.All.{all}
 use Rattle.lists.specs.Tabulate.{each}
 use Rattle.days.specs.Weekdays.{weekdays}
 use Rattle.records.specs.MessageRecords.{transferOf}
-use Rattle.claims.specs.Fails.{messageTag, transferClaims}
+use Rattle.claims.specs.Fails.{contractTag, transferClaims}
 use Rattle.claims.proofs.Opened.{openedClaims}
 use Rattle.claims.proofs.Rows.{tagLine, blank, sentIn, sent, TransferRow, row, sameBytes, claimed}
 
 -- ---- tables
 
 -- a row by its three dates and its mask
-abbrev dated : ℕ → ℕ → ℕ → ℕ → List ℕ
+abbrev pub dated : ℕ → ℕ → ℕ → ℕ → List ℕ
 dated recordDate beneficiaryDate paymentDate mask = recordDate ∷ beneficiaryDate ∷ paymentDate ∷ 5000000 ∷ 0 ∷ 0 ∷ mask ∷ []
 
 -- a monthly security of a type, by the words of its rows
-abbrev monthly : ℕ → List ℕ → List ℕ
+abbrev pub monthly : ℕ → List ℕ → List ℕ
 monthly type words = (type ∷ 1 ∷ words) ++ replicate (112 - length words) 0
 
 -- rows of 1 April, 1 May and 1 June that are paid on the dates given, the third masked
@@ -93,7 +93,7 @@ transfers =
     ∷ []
 
 delay-rows-hold :
-    all (λ r. sameBytes (claimed (transferClaims weekdays (r .tables) (r .limits) (r .day) 9 (transferOf (r .message)) (messageTag (r .message)))) (r .claims)) transfers
+    all (λ r. sameBytes (claimed (transferClaims weekdays (r .tables) (r .limits) (r .day) 9 (transferOf (r .message)) (contractTag (r .day) (r .message)))) (r .claims)) transfers
     ≡ true
 unfolding openedClaims tagLine blank sentIn sent sameBytes claimed delays failed claim paid transfers
 delay-rows-hold = refl

@@ -11,23 +11,18 @@ use lib.Dec.{eqb, leb}
 use lib.ListN.{length, length-map}
 use borrow.Author.Tests.{ltb-true, leb-true, lt-ltb, le-leb}
 use Rattle.lists.specs.Tests.{and-left, and-right}
-use Rattle.lists.specs.Select.{select, rising, select-never, select-halves, rising-select}
+use Rattle.lists.specs.Select.{select, rising, select-halves, rising-select}
+use Rattle.days.specs.MemoDay.{beforeMemo}
 use Rattle.records.specs.declared.Transfer.{Transfer}
 use Rattle.securities.specs.Securities.{securityOf, typeOf, Row, rowsOf, isFilled, filledRows, goodRow}
 use Rattle.securities.proofs.Sound.{good-row}
 use Rattle.tags.specs.declared.Tag.{Tag}
 use Rattle.tags.specs.ContractDateTag.{contractDate}
 use Rattle.claims.specs.Amounts.{failType, interimType}
-use Rattle.claims.specs.Fails.{isMbs, maximumOf, eligible, isInterim, interimIn, interim, Due, due, fails, dues, transferClaims}
+use Rattle.claims.specs.Fails.{isMbs, maximumOf, eligibleIn, cut, eligibleNow, eligibleBefore, eligible, isInterim, interimIn, interim, Due, due, fails, dues, transferClaims}
 use Rattle.claims.proofs.Runs.{select-within}
 use Rattle.claims.proofs.TableRows.{length-rows-of}
-use Rattle.claims.proofs.Eligible.{beneficiary, isKept, eligible-words, cut-words, cut-is}
-
--- ---- a test of all rows, and one of each
-
-select-under : {A : Type 0} (b : Bool) (p : A → Bool) (xs : List A) → cond b (select p xs) [] ≡ select (λ x. b && p x) xs
-select-under true p xs = refl
-select-under false p xs = sym (select-never (λ x. false) xs (λ x. refl))
+use Rattle.claims.proofs.Eligible.{select-under, beneficiary, isKept, isEligibleBefore, eligible-words, cut-words, cut-is, before-words, before-is}
 
 -- ---- interim rows
 
@@ -62,11 +57,51 @@ module _ (tables limits : List ℕ) (day : ℕ) (t : Transfer) (tag : Tag) where
   abbrev rows : List Row
   rows = filledRows tables (t .security)
 
+  -- an eligible row by the rule that the day chooses
+  unfoldable pub isEligibleOn : Row → Bool
+  isEligibleOn row =
+      let type = typeOf (securityOf tables (t .security)) in
+      cond (beforeMemo day)
+      (isEligibleBefore type (contractDate tag) day row)
+      (isKept type (maximumOf tables limits (t .security)) (contractDate tag) day (filledRows tables (t .security)) row)
+
+  -- the eligible rows are those of the table that are so, in its order
+  pub eligible-rows : rising beneficiary (filledRows tables (t .security)) ≡ true
+      → eligible tables limits day t tag ≡ select isEligibleOn (filledRows tables (t .security))
+  unfolding eligible eligibleNow isEligibleOn
+  eligible-rows e = go (beforeMemo day)
+    where
+      type : ℕ
+      type = typeOf (securityOf tables (t .security))
+
+      maximum : ℕ
+      maximum = maximumOf tables limits (t .security)
+
+      go : (b : Bool)
+          → cond b (eligibleBefore type (contractDate tag) day rows) (cut type day (eligibleIn maximum (contractDate tag) day rows))
+          ≡ select (λ row. cond b (isEligibleBefore type (contractDate tag) day row) (isKept type maximum (contractDate tag) day rows row)) rows
+      go true = before-is type (contractDate tag) day rows
+      go false = cut-is type maximum (contractDate tag) day rows e
+
+  -- the day has reached them
+  pub eligible-reached : (row : Row) → isEligibleOn row ≡ true → row .beneficiaryDate ≤ day
+  unfolding isEligibleOn
+  eligible-reached row = go (beforeMemo day)
+    where
+      type : ℕ
+      type = typeOf (securityOf tables (t .security))
+
+      maximum : ℕ
+      maximum = maximumOf tables limits (t .security)
+
+      go : (b : Bool) → cond b (isEligibleBefore type (contractDate tag) day row) (isKept type maximum (contractDate tag) day rows row) ≡ true
+          → row .beneficiaryDate ≤ day
+      go true h = before-words type (contractDate tag) day row .0 h .3
+      go false h = eligible-words maximum (contractDate tag) day rows row .0 (cut-words type maximum (contractDate tag) day rows row .0 h .0) .1
+
   -- a row that a failed transfer claims
   unfoldable pub isFailDue : Row → Bool
-  isFailDue row =
-      let type = typeOf (securityOf tables (t .security)) in
-      fails t tag && isKept type (maximumOf tables limits (t .security)) (contractDate tag) day (filledRows tables (t .security)) row
+  isFailDue row = fails t tag && isEligibleOn row
 
   -- a row that is claimed with tracking code 0, tag or no tag
   unfoldable pub isInterimDue : Row → Bool
@@ -84,14 +119,14 @@ module _ (tables limits : List ℕ) (day : ℕ) (t : Transfer) (tag : Tag) where
   -- the rows claimed are those of the table that are claimed for either reason, each once, in its order
   pub dues-rows : rising beneficiary (filledRows tables (t .security)) ≡ true
       → map (λ d. d .row) (dues tables limits day t tag) ≡ select (λ row. isFailDue row || isInterimDue row) (filledRows tables (t .security))
-  unfolding dues eligible interim isFailDue isInterimDue
+  unfolding dues interim isFailDue isInterimDue
   dues-rows e =
       map-append (λ (d : Due). d .row) (cond (fails t tag) (map (due failType) (eligible tables limits day t tag)) []) _
       ∙ ap₂ (λ (xs ys : List Row). xs ++ ys)
-      (of-part (fails t tag) failType _ _ (cut-is _ _ _ day rows e))
+      (of-part (fails t tag) failType _ _ (eligible-rows e))
       (of-part (eqb (t .code) 0) interimType _ _ (interim-is _ day rows))
       ∙ select-halves beneficiary day isFailDue isInterimDue rows e
-      (λ row h. eligible-words _ _ day rows row .0 (cut-words _ _ _ day rows row .0 (and-right (fails t tag) _ h) .0) .1)
+      (λ row h. eligible-reached row (and-right (fails t tag) _ h))
       (λ row h. interim-words _ day row .0 (and-right (eqb (t .code) 0) _ h) .2)
 
   -- so what rises with the table's rows rises with the claimed ones: the Beneficiary Date, so none is claimed twice; the row number

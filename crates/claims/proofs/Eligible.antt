@@ -1,6 +1,7 @@
 -- Eligible rows in other words, where Beneficiary Dates rise: a row is eligible exactly when C < Beneficiary Date ≤ S, fewer than the
 -- maximum number of rows have a Beneficiary Date after it and on or before S, and the cut leaves it: it is not MBS, or is paid, or no
--- earlier such row waits. Taking the last rows of a rising list is counting those behind.
+-- earlier such row waits. Taking the last rows of a rising list is counting those behind. Before the 2023 memo a row is eligible exactly
+-- when it is MBS, C < Beneficiary Date ≤ S, and the Beneficiary Date is not before the same day six months earlier.
 use mathlib.Core.Path.{_≡_, refl, sym, ap, _∙_}
 use mathlib.Core.Logic.{_↔_, _⊎_, inl, inr}
 use mathlib.Core.Bool.{Bool, true, false, cond, not, _&&_, and-false}
@@ -12,9 +13,15 @@ use lib.Dec.{ltb, leb}
 use borrow.Author.Tests.{ltb-true, ltb-false, leb-true, leb-false, lt-ltb, le-ltb, le-leb, lt-leb}
 use Rattle.lists.specs.Tests.{and-left, and-right, and-both}
 use Rattle.lists.specs.All.{all}
-use Rattle.lists.specs.Select.{select, lastOf, keepFirst, rising, select-agree, select-same, select-both, last-none, last-front, rising-select, one-kept, keep-first-words}
+use Rattle.lists.specs.Select.{select, lastOf, keepFirst, rising, select-agree, select-same, select-never, select-both, last-none, last-front, rising-select, one-kept, keep-first-words}
+use Rattle.days.specs.MemoDay.{sixMonthsBefore}
 use Rattle.securities.specs.Securities.{Row}
-use Rattle.claims.specs.Fails.{isMbs, eligibleIn, waits, cut}
+use Rattle.claims.specs.Fails.{isMbs, eligibleIn, waits, cut, withinHalfYear, eligibleBefore}
+
+-- a test of all rows, and one of each
+pub select-under : {A : Type 0} (b : Bool) (p : A → Bool) (xs : List A) → cond b (select p xs) [] ≡ select (λ x. b && p x) xs
+select-under true p xs = refl
+select-under false p xs = sym (select-never (λ x. false) xs (λ x. refl))
 
 -- the order of a security's rows
 abbrev pub beneficiary : Row → ℕ
@@ -154,3 +161,29 @@ one-waits type day rows h = rw (le-leb 3 type h) (one-kept (waits day) rows)
 pub rising-eligible : (type n contract day : ℕ) (rows : List Row) → rising beneficiary rows ≡ true
     → rising beneficiary (cut type day (eligibleIn n contract day rows)) ≡ true
 rising-eligible type n contract day rows e = rw (cut-is type n contract day rows e) (rising-select beneficiary _ rows e)
+
+-- ---- before the 2023 memo
+
+-- of a security of a type, a row with a Beneficiary Date on or before the day, after the Contract Date and within the half year
+unfoldable pub isEligibleBefore : ℕ → ℕ → ℕ → Row → Bool
+isEligibleBefore type contract day row = isMbs type && (withinHalfYear contract day row && leb (row .beneficiaryDate) day)
+
+pub before-words : (type contract day : ℕ) (row : Row)
+    → (isEligibleBefore type contract day row ≡ true)
+    ↔ ((3 ≤ type) × (contract < row .beneficiaryDate) × (sixMonthsBefore day ≤ row .beneficiaryDate) × (row .beneficiaryDate ≤ day))
+unfolding isEligibleBefore isMbs withinHalfYear
+before-words type contract day row = (
+  λ e. let r = and-right (leb 3 type) _ e in
+  let w = and-left (ltb contract (row .beneficiaryDate) && leb (sixMonthsBefore day) (row .beneficiaryDate)) _ r in (
+    leb-true 3 type (and-left _ _ e),
+    ltb-true contract (row .beneficiaryDate) (and-left _ _ w),
+    leb-true (sixMonthsBefore day) (row .beneficiaryDate) (and-right (ltb contract (row .beneficiaryDate)) _ w),
+    leb-true (row .beneficiaryDate) day (and-right (ltb contract (row .beneficiaryDate) && leb (sixMonthsBefore day) (row .beneficiaryDate)) _ r),
+  ),
+  λ h. rw (le-leb 3 type (h .0), lt-ltb contract (row .beneficiaryDate) (h .1), le-leb (sixMonthsBefore day) (row .beneficiaryDate) (h .2), le-leb (row .beneficiaryDate) day (h .3)),
+)
+
+-- the eligible rows are those of the table that are so, in its order
+pub before-is : (type contract day : ℕ) (rows : List Row) → eligibleBefore type contract day rows ≡ select (isEligibleBefore type contract day) rows
+unfolding eligibleBefore isEligibleBefore
+before-is type contract day rows = rw (select-both (withinHalfYear contract day) (λ row. leb (row .beneficiaryDate) day) rows) (select-under (isMbs type) _ rows)

@@ -9,7 +9,7 @@ use lib.ListN.{replicate}
 use Rattle.lists.specs.All.{all}
 use Rattle.days.specs.Weekdays.{weekdays}
 use Rattle.records.specs.MessageRecords.{transferOf}
-use Rattle.claims.specs.Fails.{messageTag, transferClaims}
+use Rattle.claims.specs.Fails.{contractTag, transferClaims}
 use Rattle.claims.proofs.Opened.{openedClaims}
 use Rattle.claims.proofs.Rows.{tagLine, blank, sentIn, sent, TransferRow, row, sameBytes, claimed}
 
@@ -82,7 +82,7 @@ threeRowTransfers =
     ∷ []
 
 interim-rows-hold :
-    all (λ r. sameBytes (claimed (transferClaims weekdays (r .tables) (r .limits) (r .day) 9 (transferOf (r .message)) (messageTag (r .message)))) (r .claims))
+    all (λ r. sameBytes (claimed (transferClaims weekdays (r .tables) (r .limits) (r .day) 9 (transferOf (r .message)) (contractTag (r .day) (r .message)))) (r .claims))
     (oneRowTransfers ++ threeRowTransfers) ≡ true
 unfolding openedClaims tagLine blank sentIn sent sameBytes claimed oneRow plain claim oneRowTransfers threeRows bothInterim threeRowTransfers
 interim-rows-hold = refl

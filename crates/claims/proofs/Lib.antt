@@ -9,6 +9,7 @@ pub mod Rows
 pub mod InterimRows
 pub mod DelayRows
 pub mod LimitRows
+pub mod MemoRows
 pub mod RepoRows
 pub mod Making
 pub mod TableRows

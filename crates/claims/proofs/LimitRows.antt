@@ -10,7 +10,7 @@ use Rattle.days.specs.Weekdays.{weekdays}
 use Rattle.records.specs.MessageRecords.{transferOf}
 use Rattle.securities.specs.Cases.{caseTables}
 use Rattle.securities.proofs.LentRows.{five}
-use Rattle.claims.specs.Fails.{messageTag, transferClaims}
+use Rattle.claims.specs.Fails.{contractTag, transferClaims}
 use Rattle.claims.proofs.Opened.{openedClaims}
 use Rattle.claims.proofs.Rows.{tagLine, blank, sentIn, sent, TransferRow, lentRow, row, sameBytes, claimed}
 use Rattle.claims.proofs.DelayRows.{delays}
@@ -90,7 +90,7 @@ cutTransfers =
     waiting number release = 1 ∷ 0 ∷ 1 ∷ 2 ∷ 6 ∷ number ∷ 9 ∷ 50000 ∷ 0 ∷ release ∷ 3 ∷ []
 
 limit-rows-hold :
-    all (λ r. sameBytes (claimed (transferClaims weekdays (r .tables) (r .limits) (r .day) 9 (transferOf (r .message)) (messageTag (r .message)))) (r .claims))
+    all (λ r. sameBytes (claimed (transferClaims weekdays (r .tables) (r .limits) (r .day) 9 (transferOf (r .message)) (contractTag (r .day) (r .message)))) (r .claims))
     (caseTransfers ++ (nineTransfers ++ cutTransfers)) ≡ true
 unfolding openedClaims tagLine blank sentIn sent sameBytes claimed delays case onCase april may caseTransfers months nine failed last nineTransfers cutTransfers
 limit-rows-hold = refl

@@ -1,6 +1,7 @@
 -- The rows that a transfer claims, by their numbers. In sound tables both dates rise, so the rows that the day has reached by either
 -- date come first: the eligible rows are among the last that it has reached by Beneficiary Date, the cut of these goes by the number of one
--- row, and the interim rows are those behind these that it has reached by Record Date.
+-- row, and the interim rows are those behind these that it has reached by Record Date. Before the 2023 memo the eligible rows are those
+-- of MBS that it has reached and that are behind one number.
 use mathlib.Core.Path.{_≡_, refl, sym, ap, ap₂, _∙_}
 use mathlib.Core.Bool.{Bool, true, false, cond, not, _&&_, and-true, and-false}
 use mathlib.Core.List.{List, [], _∷_, _++_, map, map-append, map-map}
@@ -10,12 +11,13 @@ use native.Mathlib.Omega.{arith}
 use lib.Dec.{ltb, leb}
 use lib.ListN.{length, take, drop, length-drop}
 use lib.Seq.{length-take-le, getD-take}
-use borrow.Author.Tests.{ltb-true, leb-true, leb-false, eqb-true, lt-ltb, le-ltb, le-leb, lt-leb, eq-eqb, ne-eqb}
+use borrow.Author.Tests.{ltb-true, ltb-false, leb-true, leb-false, eqb-true, lt-ltb, le-ltb, le-leb, lt-leb, eq-eqb, ne-eqb}
 use Rattle.lists.specs.Tests.{and-left, and-right, and-both}
 use Rattle.lists.specs.All.{all, all-at, all-of, all-weaken}
 use Rattle.lists.specs.Parts.{drop-take}
-use Rattle.lists.specs.Select.{select, lastOf, keepFirst, firstKey, rising, select-agree, select-both, rising-select, rising-last, first-key-select, keep-first-key}
+use Rattle.lists.specs.Select.{select, lastOf, keepFirst, firstKey, rising, select-agree, select-same, select-both, rising-select, rising-last, first-key-select, keep-first-key}
 use Rattle.days.specs.Days.{isDate, lastOpen}
+use Rattle.days.specs.MemoDay.{sixMonthsBefore}
 use Rattle.records.specs.declared.Claim.{Claim}
 use Rattle.records.specs.declared.Transfer.{Transfer}
 use Rattle.securities.specs.Securities.{largestFactor, securityOf, typeOf, Row, rowsOf, isEmpty, isFilled, filledRows, goodRow, goodRows, goodTables}
@@ -23,8 +25,8 @@ use Rattle.securities.proofs.Sound.{good-row, none-filled}
 use Rattle.tags.specs.declared.Tag.{Tag}
 use Rattle.tags.specs.ContractDateTag.{tagged, contractDate}
 use Rattle.claims.specs.Amounts.{failType, interimType, claimOn}
-use Rattle.claims.specs.Fails.{isMbs, maximumOf, eligibleIn, waits, cut, eligible, isInterim, interimIn, interim, Due, due, fails, dues, transferParties, transferClaims}
-use Rattle.claims.specs.Reached.{rowAt, leading, dateAt, isReached, reachedFrom, reachedRows, interimEnd, isWaiting, waitingFrom, waitingRow, isKeptBy, Claiming}
+use Rattle.claims.specs.Fails.{isMbs, maximumOf, eligibleIn, waits, cut, eligibleNow, withinHalfYear, eligibleBefore, eligible, isInterim, interimIn, interim, Due, due, fails, dues, transferParties, transferClaims}
+use Rattle.claims.specs.Reached.{rowAt, leading, dateAt, isReached, reachedFrom, reachedRows, interimEnd, isWaiting, waitingFrom, waitingRow, isKeptBy, afterBoth, firstBefore, Claiming}
 use Rattle.claims.proofs.TableRows.{rows-of-at, row-number, length-rows-of, row-behind, rising-numbers, good-rows}
 
 -- ---- leading rows
@@ -249,6 +251,12 @@ module _ (calendar tables : List ℕ) (day number : ℕ) (t : Transfer) where
 
 -- ---- the cut by row numbers
 
+-- a number behind all rows drops none
+kept-behind : (contract day n : ℕ) (rows : List Row) → all (λ row. ltb (row .index) n) rows ≡ true
+    → select (λ row. ltb contract (row .beneficiaryDate)) rows ≡ select (isKeptBy contract n day) rows
+unfolding isKeptBy
+kept-behind contract day n rows b = select-agree _ _ _ rows b (λ row h. rw (le-ltb n (row .index) (omega (arith, ltb-true (row .index) n h))))
+
 -- where all rows have numbers below n, which stands for none of them
 cut-by-number : (type contract day n : ℕ) (rows : List Row) → rising (λ row. row .index) rows ≡ true → all (λ row. ltb (row .index) n) rows ≡ true
     → cut type day (select (λ row. ltb contract (row .beneficiaryDate)) rows)
@@ -266,7 +274,30 @@ cut-by-number type contract day n rows e b = go (isMbs type)
         ∙ select-both _ after rows
         ∙ ap (λ (w : ℕ). select (λ row. not (ltb w (row .index) && waits day row) && after row) rows)
         (first-key-select (λ row. row .index) n (waits day) after rows)
-    go false = select-agree _ _ _ rows b (λ row h. rw (le-ltb n (row .index) (omega (arith, ltb-true (row .index) n h))))
+    go false = kept-behind contract day n rows b
+
+-- ---- before the 2023 memo
+
+-- a date behind the one number is after the Contract Date and on or after the other date
+pub after-both : (contract from date : ℕ) → ltb (afterBoth contract from) date ≡ (ltb contract date && leb from date)
+unfolding afterBoth
+after-both contract from date = go (ltb contract from) refl
+  where
+    reached : (b : Bool) → leb from date ≡ b → contract < from → ltb (from - 1) date ≡ (ltb contract date && b)
+    reached true q l =
+        let h = leb-true from date q in
+        rw (lt-ltb (from - 1) date (omega arith), lt-ltb contract date (omega arith))
+    reached false q l =
+        let h = leb-false from date q in
+        rw (le-ltb (from - 1) date (omega arith), and-false (ltb contract date))
+
+    later : (b : Bool) → ltb contract date ≡ b → from ≤ contract → b ≡ (b && leb from date)
+    later true q l = let h = ltb-true contract date q in rw (le-leb from date (omega arith))
+    later false q l = refl
+
+    go : (b : Bool) → ltb contract from ≡ b → ltb (cond b (from - 1) contract) date ≡ (ltb contract date && leb from date)
+    go true e = reached (leb from date) refl (ltb-true contract from e)
+    go false e = later (ltb contract date) refl (ltb-false contract from e)
 
 -- ---- the rows of a transfer's security
 
@@ -314,16 +345,21 @@ module _ (calendar tables : List ℕ) (day : ℕ) (t : Transfer) where
             (omega (arith, length-rows-of tables (t .security))) in
             factors row (rw here at e)
 
-    -- the last rows, up to a maximum number, of those with Beneficiary Date on or before the day
+    -- the rows with Beneficiary Date on or before the day
+    all-reached : select (λ row. leb (row .beneficiaryDate) day) (filledRows tables (t .security)) ≡ take reachedNow rows
+    unfolding filledRows dated dateAt
+    all-reached =
+        dated-leading (lastOpen calendar) day 1 0 0 rows (good-rows calendar tables (t .security) sound held)
+        ∙ ap (λ (n : ℕ). take n rows) (sym (reached-leading tables (t .security) day))
+
+    -- the last of them, up to a maximum number
     last-reached : (maximum : ℕ)
         → lastOf maximum (select (λ row. leb (row .beneficiaryDate) day) (filledRows tables (t .security)))
         ≡ take (reachedNow - (reachedNow - maximum)) (drop (reachedNow - maximum) rows)
-    unfolding lastOf filledRows dated dateAt
+    unfolding lastOf
     last-reached maximum =
-        let first : select (λ row. leb (row .beneficiaryDate) day) (filledRows tables (t .security)) ≡ take reachedNow rows
-        = dated-leading (lastOpen calendar) day 1 0 0 rows (good-rows calendar tables (t .security) sound held) ∙ ap (λ (n : ℕ). take n rows) (sym (reached-leading tables (t .security) day)) in
         let long : length (take reachedNow rows) ≡ reachedNow = length-take-le reachedNow rows (omega (arith, few-reached tables (t .security) day, length-rows-of tables (t .security))) in
-        rw (first, long) (drop-take (reachedNow - maximum) reachedNow rows)
+        rw (all-reached, long) (drop-take (reachedNow - maximum) reachedNow rows)
 
     -- the numbers of the rows from a first one up to the reached ones
     below-reached : (first : ℕ) → first ≤ reachedNow → all (λ row. ltb (row .index) reachedNow) (take (reachedNow - first) (drop first rows)) ≡ true
@@ -337,20 +373,44 @@ module _ (calendar tables : List ℕ) (day : ℕ) (t : Transfer) where
         (lt-ltb (first + k) reachedNow (omega arith)))
 
     -- the eligible rows are those of the last ones that the number of the first that waits leaves
-    pub eligible-window : (limits : List ℕ) (tag : Tag)
+    pub now-window : (limits : List ℕ) (contract : ℕ)
         → let first = reachedNow - maximumOf tables limits (t .security) in
-        let waiting = waitingRow tables (t .security) (contractDate tag) day first in
-        eligible tables limits day t tag ≡ select (isKeptBy (contractDate tag) waiting day) (take (reachedNow - first) (drop first rows))
-    unfolding eligible eligibleIn waitingRow waitingFrom
-    eligible-window limits tag =
+        let waiting = waitingRow tables (t .security) contract day first in
+        eligibleNow tables limits (t .security) contract day ≡ select (isKeptBy contract waiting day) (take (reachedNow - first) (drop first rows))
+    unfolding eligibleNow eligibleIn waitingRow waitingFrom
+    now-window limits contract =
         let type = typeOf (securityOf tables (t .security)) in
         let maximum = maximumOf tables limits (t .security) in
         let first = reachedNow - maximum in
         let numbers : rising (λ row. row .index) (lastOf maximum (select (λ row. leb (row .beneficiaryDate) day) (filledRows tables (t .security)))) ≡ true
         = rising-last _ maximum _ (rising-select _ _ _ (rising-numbers tables (t .security))) in
-        ap (λ (l : List Row). cut type day (select (λ row. ltb (contractDate tag) (row .beneficiaryDate)) l)) (last-reached maximum)
-        ∙ cut-by-number type (contractDate tag) day reachedNow (take (reachedNow - first) (drop first rows))
+        ap (λ (l : List Row). cut type day (select (λ row. ltb contract (row .beneficiaryDate)) l)) (last-reached maximum)
+        ∙ cut-by-number type contract day reachedNow (take (reachedNow - first) (drop first rows))
         (rw (last-reached maximum) at numbers) (below-reached first (omega arith))
+
+    -- before the 2023 memo they are those of MBS that are after both dates
+    pub before-window : (contract : ℕ)
+        → let first = firstBefore tables (t .security) day in
+        eligibleBefore (typeOf (securityOf tables (t .security))) contract day (filledRows tables (t .security))
+        ≡ select (isKeptBy (afterBoth contract (sixMonthsBefore day)) reachedNow day) (take (reachedNow - first) (drop first rows))
+    unfolding eligibleBefore withinHalfYear firstBefore select
+    before-window contract = go (isMbs (typeOf (securityOf tables (t .security))))
+      where
+        after : ℕ
+        after = afterBoth contract (sixMonthsBefore day)
+
+        go : (b : Bool) → let first = cond b 0 reachedNow in
+            cond b (select (withinHalfYear contract day) (select (λ row. leb (row .beneficiaryDate) day) (filledRows tables (t .security)))) []
+            ≡ select (isKeptBy after reachedNow day) (take (reachedNow - first) (drop first rows))
+        go true =
+            let whole : reachedNow ≡ reachedNow - 0 = omega arith in
+            select-same (withinHalfYear contract day) (λ row. ltb after (row .beneficiaryDate))
+            (select (λ row. leb (row .beneficiaryDate) day) (filledRows tables (t .security))) (λ row. sym (after-both contract (sixMonthsBefore day) (row .beneficiaryDate)))
+            ∙ ap (select (λ row. ltb after (row .beneficiaryDate))) (all-reached ∙ ap (λ (n : ℕ). take n rows) whole)
+            ∙ kept-behind after day reachedNow (take (reachedNow - 0) rows) (below-reached 0 (omega arith))
+        go false =
+            let z : 0 ≡ reachedNow - reachedNow = omega arith in
+            ap (λ (n : ℕ). select (isKeptBy after reachedNow day) (take n (drop reachedNow rows))) z
 
     between-window : select (isInterim day) (filledRows tables (t .security))
         ≡ take (reachedFrom 0 tables (t .security) day reachedNow - reachedNow) (drop reachedNow rows)

@@ -11,7 +11,7 @@ use Rattle.days.specs.Weekdays.{weekdays}
 use Rattle.records.specs.declared.Claim.{Claim}
 use Rattle.records.specs.MessageRecords.{transferOf}
 use Rattle.securities.specs.Cases.{caseTables}
-use Rattle.claims.specs.Fails.{messageTag, maximumNumbers, maximumFor, transferClaims}
+use Rattle.claims.specs.Fails.{contractTag, maximumNumbers, maximumFor, transferClaims}
 use Rattle.claims.specs.Close.{closeClaims}
 use Rattle.claims.specs.Written.{bytesOfAll}
 use Rattle.claims.proofs.Opened.{openedClaims}
@@ -214,14 +214,14 @@ apartCloses =
 -- ---- the theorems
 
 rows-hold :
-    all (λ r. sameBytes (bytesOfAll (transferClaims weekdays (r .tables) (r .limits) (r .day) 9 (transferOf (r .message)) (messageTag (r .message)))) (r .claims)) transfers
+    all (λ r. sameBytes (bytesOfAll (transferClaims weekdays (r .tables) (r .limits) (r .day) 9 (transferOf (r .message)) (contractTag (r .day) (r .message)))) (r .claims)) transfers
     && all (λ r. sameBytes (bytesOfAll (closeClaims weekdays (r .tables) (r .day) balances)) (r .claims)) closes
     && maxima ≡ true
 unfolding openedClaims tagLine blank sentIn sent sameBytes manyTables balances transfers closes maximaOf maxima
 rows-hold = refl
 
 apart-rows-hold :
-    all (λ r. sameBytes (claimed (transferClaims weekdays (r .tables) (r .limits) (r .day) 9 (transferOf (r .message)) (messageTag (r .message)))) (r .claims)) apartTransfers
+    all (λ r. sameBytes (claimed (transferClaims weekdays (r .tables) (r .limits) (r .day) 9 (transferOf (r .message)) (contractTag (r .day) (r .message)))) (r .claims)) apartTransfers
     && all (λ r. sameBytes (claimed (closeClaims weekdays (r .tables) (r .day) loans)) (r .claims)) apartCloses ≡ true
 unfolding openedClaims tagLine blank sentIn sent sameBytes apartTables loans claimed apartTransfers apartCloses
 apart-rows-hold = refl

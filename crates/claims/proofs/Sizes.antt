@@ -5,7 +5,7 @@ use mathlib.Core.List.{List, [], _∷_, map, map-append}
 use Prim.Native.Nat.{ℕ, zero, suc, _≤_, _<_}
 use native.Mathlib.Nat.{mul-le-mul}
 use native.Mathlib.Omega.{arith}
-use lib.Dec.{ltb, eqb}
+use lib.Dec.{eqb, leb, ltb}
 use lib.ListN.{getD}
 use borrow.Author.Tests.{ltb-true}
 use Rattle.lists.specs.Tests.{and-left, and-right}
@@ -13,15 +13,17 @@ use Rattle.lists.specs.All.{all, all-both}
 use Rattle.lists.specs.Select.{select, keepFirst, all-select, all-last, all-keep-first}
 use Rattle.lists.specs.Tabulate.{each, eachOf}
 use Rattle.days.specs.Days.{bitOn, lastOpen}
+use Rattle.days.specs.MemoDay.{beforeMemo}
 use Rattle.days.proofs.OpenDays.{Kept, after-small, from-small}
 use Rattle.records.specs.declared.Claim.{Claim}
 use Rattle.records.specs.MessageRecords.{claimKind, claimValues}
 use Rattle.records.specs.declared.Transfer.{Transfer}
 use Rattle.tags.specs.declared.Tag.{Tag}
+use Rattle.tags.specs.ContractDateTag.{contractDate}
 use Rattle.securities.specs.Securities.{securityOf, typeOf, Row, filledRows, goodRow}
 use Rattle.securities.proofs.Sound.{good-row, Sound}
 use Rattle.claims.specs.Amounts.{Part, ofInterest, ofPrincipal, centsOn, centsFor, factorFor, amount, isTracked, outcomeOf, isLate, releaseOf, isEarly, slotOf, Parties, claimOn, failType, interimType}
-use Rattle.claims.specs.Fails.{isMbs, eligibleIn, waits, cut, eligible, isInterim, interimIn, interim, Due, due, fails, dues, transferParties, transferClaims}
+use Rattle.claims.specs.Fails.{isMbs, eligibleIn, waits, cut, eligibleNow, eligibleBefore, eligible, isInterim, interimIn, interim, Due, due, fails, dues, transferParties, transferClaims}
 use Rattle.claims.specs.Close.{crossed, trackingType, loanParties, loanClaim, trackingClaims, rowClaims, closeClaims, securityBalances, lenderBalances}
 use Rattle.claims.proofs.Written.{Fits, AllFit, all-fit-append}
 
@@ -124,15 +126,32 @@ module _ (calendar tables : List ℕ) (kept : Kept calendar) where
   -- rows selected from sound ones fit
   fit-eligible : (limits : List ℕ) (day : ℕ) (t : Transfer) (tag : Tag) → Sound (lastOpen calendar) (filledRows tables (t .security))
       → all (rowFits (lastOpen calendar)) (eligible tables limits day t tag) ≡ true
-  unfolding eligible eligibleIn cut
-  fit-eligible limits day t tag s =
-      go (isMbs (typeOf (securityOf tables (t .security)))) _
-      (all-select _ _ _ (all-last _ _ _ (all-select _ _ _ (sound-fit (lastOpen calendar) (filledRows tables (t .security)) s))))
+  unfolding eligible eligibleNow eligibleIn cut eligibleBefore all
+  fit-eligible limits day t tag s = on (beforeMemo day)
     where
-      go : (b : Bool) (rows : List Row) → all (rowFits (lastOpen calendar)) rows ≡ true
+      type : ℕ
+      type = typeOf (securityOf tables (t .security))
+
+      reached : List Row
+      reached = select (λ row. leb (row .beneficiaryDate) day) (filledRows tables (t .security))
+
+      fit-reached : all (rowFits (lastOpen calendar)) reached ≡ true
+      fit-reached = all-select _ _ _ (sound-fit (lastOpen calendar) (filledRows tables (t .security)) s)
+
+      cut-fit : (b : Bool) (rows : List Row) → all (rowFits (lastOpen calendar)) rows ≡ true
           → all (rowFits (lastOpen calendar)) (cond b (keepFirst (waits day) rows) rows) ≡ true
-      go true rows e = all-keep-first _ _ rows e
-      go false rows e = e
+      cut-fit true rows e = all-keep-first _ _ rows e
+      cut-fit false rows e = e
+
+      kind-fit : (b : Bool) (rows : List Row) → all (rowFits (lastOpen calendar)) rows ≡ true → all (rowFits (lastOpen calendar)) (cond b rows []) ≡ true
+      kind-fit true rows e = e
+      kind-fit false rows e = refl
+
+      on : (b : Bool)
+          → all (rowFits (lastOpen calendar))
+          (cond b (eligibleBefore type (contractDate tag) day (filledRows tables (t .security))) (eligibleNow tables limits (t .security) (contractDate tag) day)) ≡ true
+      on true = kind-fit (isMbs type) _ (all-select _ _ _ fit-reached)
+      on false = cut-fit (isMbs type) _ (all-select _ _ _ (all-last _ _ _ fit-reached))
 
   fit-interim : (day : ℕ) (t : Transfer) → Sound (lastOpen calendar) (filledRows tables (t .security))
       → all (rowFits (lastOpen calendar)) (interim tables day t) ≡ true

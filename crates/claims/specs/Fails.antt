@@ -1,22 +1,27 @@
--- Document 01, section Fail claims, and document 02, card 1, interim claims, card 2, long-delay pools, and card 5, date limits: the rows
--- that a transfer claims. S is the book's day, C the Contract Date.
+-- Document 01, section Fail claims, and document 02, card 1, interim claims, card 2, long-delay pools, card 5, date limits, and card 7, days
+-- before the 2023 memo: the rows that a transfer claims. S is the book's day, C the Contract Date.
 use mathlib.Core.Bool.{Bool, cond, _&&_}
 use mathlib.Core.List.{List, [], _∷_, _++_, map}
 use Prim.Native.Nat.{ℕ}
 use lib.Dec.{eqb, ltb, leb}
 use lib.ListN.{getD}
 use Rattle.lists.specs.Select.{select, lastOf, keepFirst}
+use Rattle.days.specs.MemoDay.{beforeMemo, sixMonthsBefore}
 use Rattle.records.specs.declared.Claim.{Claim}
 use Rattle.records.specs.declared.Transfer.{Transfer}
 use Rattle.records.specs.MessageRecords.{firstLine, secondLine}
 use Rattle.securities.specs.Securities.{securityOf, typeOf, frequencyOf, Row, filledRows}
 use Rattle.tags.specs.declared.Tag.{Tag}
-use Rattle.tags.specs.ContractDateTag.{tagOf, tagged, contractDate}
+use Rattle.tags.specs.ContractDateTag.{tagOf, onDay, tagged, contractDate}
 use Rattle.claims.specs.Amounts.{failType, interimType, Parties, claimOn}
 
 -- The tag of a transfer message: that of its two free text lines.
 unfoldable pub messageTag : List ℕ → Tag
 messageTag m = tagOf (firstLine m) (secondLine m)
+
+-- The same as the book's day takes it.
+unfoldable pub contractTag : ℕ → List ℕ → Tag
+contractTag day m = onDay day (messageTag m)
 
 -- ---- eligible rows
 
@@ -52,11 +57,28 @@ waits day row = ltb day (row .paymentDate)
 unfoldable pub cut : ℕ → ℕ → List Row → List Row
 cut type day rows = cond (isMbs type) (keepFirst (waits day) rows) rows
 
--- The eligible rows of a transfer's security, for its tag.
+-- The eligible rows of a transfer's security from the 2023 memo on.
+unfoldable pub eligibleNow : List ℕ → List ℕ → ℕ → ℕ → ℕ → List Row
+eligibleNow tables limits s contract day =
+    cut (typeOf (securityOf tables s)) day (eligibleIn (maximumOf tables limits s) contract day (filledRows tables s))
+
+-- Card 7: a Beneficiary Date after the Contract Date, and on or after the same day six months earlier.
+unfoldable pub withinHalfYear : ℕ → ℕ → Row → Bool
+withinHalfYear contract day row = ltb contract (row .beneficiaryDate) && leb (sixMonthsBefore day) (row .beneficiaryDate)
+
+-- The eligible rows before the 2023 memo: of types 3 and 4 only, every such row with Beneficiary Date on or before the day, without a limit
+-- in number and without the cut.
+unfoldable pub eligibleBefore : ℕ → ℕ → ℕ → List Row → List Row
+eligibleBefore type contract day rows =
+    cond (isMbs type) (select (withinHalfYear contract day) (select (λ row. leb (row .beneficiaryDate) day) rows)) []
+
+-- The eligible rows of a transfer's security, for its tag: the day chooses the rule.
 unfoldable pub eligible : List ℕ → List ℕ → ℕ → Transfer → Tag → List Row
 eligible tables limits day t tag =
-    cut (typeOf (securityOf tables (t .security))) day
-    (eligibleIn (maximumOf tables limits (t .security)) (contractDate tag) day (filledRows tables (t .security)))
+    let s = t .security in
+    cond (beforeMemo day)
+    (eligibleBefore (typeOf (securityOf tables s)) (contractDate tag) day (filledRows tables s))
+    (eligibleNow tables limits s (contractDate tag) day)
 
 -- ---- interim rows
 

@@ -68,6 +68,16 @@ waitingRow tables s contract day first =
 unfoldable pub isKeptBy : ℕ → ℕ → ℕ → Row → Bool
 isKeptBy contract waiting day row = not (ltb waiting (row .index) && waits day row) && ltb contract (row .beneficiaryDate)
 
+-- ---- before the 2023 memo
+
+-- The number behind which a date is after the Contract Date and on or after another date.
+unfoldable pub afterBoth : ℕ → ℕ → ℕ
+afterBoth contract from = cond (ltb contract from) (from - 1) contract
+
+-- The first row that may be claimed: the first of all for MBS, and the row behind the reached ones for other types.
+unfoldable pub firstBefore : List ℕ → ℕ → ℕ → ℕ
+firstBefore tables s day = cond (isMbs (typeOf (securityOf tables s))) 0 (reachedRows tables s day)
+
 -- ---- claims on rows
 
 -- What claims on the rows of a transfer's security ask: words of their lengths, a security and a sender of the book, and factors in range.
