@@ -174,12 +174,12 @@ pub before-words : (type contract day : ℕ) (row : Row)
 unfolding isEligibleBefore isMbs withinHalfYear
 before-words type contract day row = (
   λ e. let r = and-right (leb 3 type) _ e in
-  let w = and-left (ltb contract (row .beneficiaryDate) && leb (sixMonthsBefore day) (row .beneficiaryDate)) _ r in (
-    leb-true 3 type (and-left _ _ e),
-    ltb-true contract (row .beneficiaryDate) (and-left _ _ w),
-    leb-true (sixMonthsBefore day) (row .beneficiaryDate) (and-right (ltb contract (row .beneficiaryDate)) _ w),
-    leb-true (row .beneficiaryDate) day (and-right (ltb contract (row .beneficiaryDate) && leb (sixMonthsBefore day) (row .beneficiaryDate)) _ r),
-  ),
+      let w = and-left (ltb contract (row .beneficiaryDate) && leb (sixMonthsBefore day) (row .beneficiaryDate)) _ r in (
+        leb-true 3 type (and-left _ _ e),
+        ltb-true contract (row .beneficiaryDate) (and-left _ _ w),
+        leb-true (sixMonthsBefore day) (row .beneficiaryDate) (and-right (ltb contract (row .beneficiaryDate)) _ w),
+        leb-true (row .beneficiaryDate) day (and-right (ltb contract (row .beneficiaryDate) && leb (sixMonthsBefore day) (row .beneficiaryDate)) _ r),
+      ),
   λ h. rw (le-leb 3 type (h .0), lt-ltb contract (row .beneficiaryDate) (h .1), le-leb (sixMonthsBefore day) (row .beneficiaryDate) (h .2), le-leb (row .beneficiaryDate) day (h .3)),
 )
 

@@ -6,7 +6,7 @@ use mathlib.Core.Path.{_≡_, refl, sym, ap, ap₂, _∙_}
 use mathlib.Core.Bool.{Bool, true, false, cond, not, _&&_, and-true, and-false}
 use mathlib.Core.List.{List, [], _∷_, _++_, map, map-append, map-map}
 use Prim.Native.Nat.{ℕ, zero, suc, _+_, _-_, _≤_, _<_}
-use native.Mathlib.Nat.{zero-add}
+use native.Mathlib.Nat.{zero-add, le-refl}
 use native.Mathlib.Omega.{arith}
 use lib.Dec.{ltb, leb}
 use lib.ListN.{length, take, drop, length-drop}
@@ -308,6 +308,14 @@ reached-leading tables s day = zero-add (leading (isReached 1 day) (rowsOf (secu
 pub few-reached : (tables : List ℕ) (s day : ℕ) → reachedRows tables s day ≤ 16
 few-reached tables s day =
     omega (arith, reached-leading tables s day, leading-within (isReached 1 day) (rowsOf (securityOf tables s)), length-rows-of tables s)
+
+pub first-within : (tables : List ℕ) (s day : ℕ) → firstBefore tables s day ≤ reachedRows tables s day
+unfolding firstBefore
+first-within tables s day = go (isMbs (typeOf (securityOf tables s)))
+  where
+    go : (b : Bool) → cond b 0 (reachedRows tables s day) ≤ reachedRows tables s day
+    go true = omega arith
+    go false = le-refl _
 
 module _ (calendar tables : List ℕ) (day : ℕ) (t : Transfer) where
   abbrev rows : List Row

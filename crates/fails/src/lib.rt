@@ -1,22 +1,24 @@
-// The claims of a transfer (document 01, section Fail claims; document 02, card 1, interim claims, card 2, long-delay pools, and card 5,
-// date limits). Failed: the most recent rows that the day has reached by Beneficiary Date, up to the maximum number of the limits lent, and
-// of these each with a Beneficiary Date after the Contract Date; MBS leaves out those that wait for their Payment Date behind the first
-// that does. Interim: the rows behind them that it has reached by Record Date. Tables keep their rules, so filled rows come first and both
-// dates rise. A pass with write false counts the claims, one with write true stores them too.
+// The claims of a transfer (document 01, section Fail claims; document 02, card 1, interim claims, card 2, long-delay pools, card 5, date
+// limits, and card 7, days before the 2023 memo). Failed: the most recent rows that the day has reached by Beneficiary Date, up to the
+// maximum number of the limits lent, and of these each with a Beneficiary Date after the Contract Date; MBS leaves out those that wait for
+// their Payment Date behind the first that does. Before the memo: of MBS each such row of the last half year. Interim: the rows behind
+// them that it has reached by Record Date. Tables keep their rules, so filled rows come first and both dates rise. A pass with write false
+// counts the claims, one with write true stores them too.
 ghost use mathlib.Core.Path.{_≡_};
-ghost use mathlib.Core.Bool.{_&&_};
+ghost use mathlib.Core.Bool.{true, _&&_};
 ghost use Prim.Native.Nat.{_+_, _-_, _≤_, _<_};
 ghost use lib.Dec.{ltb};
 ghost use lib.ListN.{length};
+ghost use Rattle.days.specs.Days.{isDate};
 ghost use Rattle.securities.specs.Securities.{securityOf, frequencyOf, rowOf};
 ghost use Rattle.claims.specs.Fails.{isMbs, maximumFor};
 ghost use Rattle.claims.specs.Passes.{Free, Passed};
-ghost use Rattle.claims.specs.Reached.{rowAt, reachedFrom, reachedRows, interimEnd, waitingRow, Claiming};
-ghost use Rattle.fails.specs.Recent.{noRows, recentRows, dueType, dueClaim, recentClaims};
+ghost use Rattle.claims.specs.Reached.{rowAt, reachedFrom, reachedRows, interimEnd, waitingRow, afterBoth, firstBefore, Claiming};
+ghost use Rattle.fails.specs.Recent.{noRows, rowsBefore, rowsNow, recentRows, dueType, dueClaim, recentClaims};
 use records::Transfer;
 use tags::Tag;
 
-// The rows on which a transfer claims: those from first up to reached as failed if their Beneficiary Date is after the Contract Date and,
+// The rows on which a transfer claims: those from first up to reached as failed if their Beneficiary Date is behind the number after and,
 // behind the waiting row, their Payment Date is not after the day; those from reached up to end as interim.
 pub struct Recent {
     pub after: u32,
@@ -148,9 +150,76 @@ fn no_rows() -> Recent
     }
 }
 
+// The number behind which a date is after the Contract Date and on or after another date.
+fn after_both(contract: u32, from: u32) -> u32
+    ensures { λ r. ⌜ r ≡ afterBoth contract from ⌝ }
+{
+    if contract < from {
+        return from - 1;
+    }
+    contract
+}
+
+// The first row that may be claimed before the 2023 memo: of MBS the first of all, of other types the one behind the reached rows.
+fn first_before(tables: &[u32], security: u8, day: u32, reached: u8) -> u8
+    requires { ⌜ (length (now tables) ≡ 1824) × (security < 16) × (reached ≡ reachedRows (now tables) security day) ⌝ }
+    ensures { λ r. ⌜ r ≡ firstBefore (now (tables .entry)) security day ⌝ }
+{
+    if is_mbs(securities::security_type(tables, security as usize)) {
+        return 0;
+    }
+    reached
+}
+
+// The rows of a transfer with a Contract Date before the 2023 memo: of MBS all that are reached, within the half year.
+fn rows_before(tables: &[u32], day: u32, t: Transfer, contract: u32, reached: u8, end: u8) -> Recent
+    requires { ⌜ (length (now tables) ≡ 1824) × (t .security < 16) × (isDate day ≡ true)
+        × (reached ≡ reachedRows (now tables) (t .security) day) × (end ≡ interimEnd (now tables) (t .security) day) ⌝ }
+    ensures { λ r. ⌜ r ≡ rowsBefore (now (tables .entry)) day t contract ⌝ }
+{
+    Recent {
+        after: after_both(contract, days::six_months_before(day)),
+        first: first_before(tables, t.security, day, reached),
+        reached,
+        end,
+        waiting: reached,
+    }
+}
+
+// The rows of a transfer with a Contract Date from the memo on: the most recent that are reached, up to the maximum number.
+fn rows_now(
+    tables: &[u32],
+    limits: &[u32],
+    day: u32,
+    t: Transfer,
+    contract: u32,
+    reached: u8,
+    end: u8,
+) -> Recent
+    requires { ⌜ (length (now tables) ≡ 1824) × (length (now limits) ≡ 5) × (t .security < 16) × (frequencyOf (securityOf (now tables) (t .security)) ≤ 4)
+        × (reached ≡ reachedRows (now tables) (t .security) day) × (end ≡ interimEnd (now tables) (t .security) day) ⌝ }
+    ensures { λ r. ⌜ r ≡ rowsNow (now (tables .entry)) (now (limits .entry)) day t contract ⌝ }
+{
+    let s = t.security as usize;
+    let maximum = maximum_for(
+        limits,
+        securities::security_type(tables, s),
+        securities::frequency(tables, s),
+    );
+    let first = first_of_last(reached, maximum);
+    Recent {
+        after: contract,
+        first,
+        reached,
+        end,
+        waiting: waiting_row(tables, t.security, contract, day, first, reached),
+    }
+}
+
 // The rows on which a transfer claims, found once for both passes.
 pub fn recent_rows(tables: &[u32], limits: &[u32], day: u32, t: Transfer, tag: Tag) -> Recent
-    requires { ⌜ (length (now tables) ≡ 1824) × (length (now limits) ≡ 5) × (t .security < 16) × (frequencyOf (securityOf (now tables) (t .security)) ≤ 4) ⌝ }
+    requires { ⌜ (length (now tables) ≡ 1824) × (length (now limits) ≡ 5) × (t .security < 16) × (frequencyOf (securityOf (now tables) (t .security)) ≤ 4)
+        × (isDate day ≡ true) ⌝ }
     ensures { λ r. ⌜ r ≡ recentRows (now (tables .entry)) (now (limits .entry)) day t tag ⌝ }
 {
     if t.code != 0 {
@@ -167,20 +236,10 @@ pub fn recent_rows(tables: &[u32], limits: &[u32], day: u32, t: Transfer, tag: T
             waiting: reached,
         };
     };
-    let s = t.security as usize;
-    let maximum = maximum_for(
-        limits,
-        securities::security_type(tables, s),
-        securities::frequency(tables, s),
-    );
-    let first = first_of_last(reached, maximum);
-    Recent {
-        after: date.0,
-        first,
-        reached,
-        end,
-        waiting: waiting_row(tables, t.security, date.0, day, first, reached),
+    if days::before_memo(day) {
+        return rows_before(tables, day, t, date.0, reached, end);
     }
+    rows_now(tables, limits, day, t, date.0, reached, end)
 }
 
 // The claim type of a row, none where it is not claimed.

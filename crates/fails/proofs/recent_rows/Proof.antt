@@ -1,34 +1,34 @@
--- Another tracking code has no rows; without a tag the first row is behind the reached ones, with one it is the first of the last of them.
-use mathlib.Core.Path.{_≡_, refl, _∙_, ap₂, subst⁻¹}
+-- Another tracking code has no rows; without a tag the first row is behind the reached ones, with one the day chooses the rule.
+use mathlib.Core.Path.{_≡_, refl, sym, _∙_}
 use mathlib.Core.Bool.{false}
 use mathlib.Core.Logic.{⊎-elim}
 use mathlib.Core.List.{[], _∷_}
-use Prim.Native.Nat.{ℕ, _≤_}
 use denote.Enum.Declared.{tagOf}
 use types.Run.{OneOf}
 use Rattle.tags.specs.declared.Tag.{Tag}
-use Rattle.tags.specs.declared.Tag.the-variants.{Absent, Several, Unended, NotDate, On}
-use Rattle.tags.specs.ContractDateTag.{tagged, contractDate}
+use Rattle.tags.specs.declared.Tag.the-variants.{Absent, Several, Unended, Empty, NotDate, On}
+use Rattle.tags.specs.ContractDateTag.{tagged}
 use Rattle.tags.proofs.Tag.{the-type}
-use Rattle.claims.specs.Fails.{maximumFor, maximumOf}
 use Rattle.claims.specs.Reached.{reachedRows}
-use Rattle.fails.proofs.Claimed.{rows-by-code, rows-untagged, rows-tagged}
+use Rattle.fails.proofs.Claimed.{rows-by-code, rows-untagged, rows-earlier, rows-later}
 use borrow.Author.Needs.{needs}
 use native.Mathlib.Omega.{arith}
 use Rattle.fails.proofs.recent_rows.Statement.{statement}
 use Rattle.fails.proofs.recent_rows.Tie as tie
 
 -- a tag with no date
-untagged : (tag : Tag) → OneOf (0 ∷ 1 ∷ 2 ∷ 3 ∷ []) (tagOf the-type tag) → (tagged tag ≡ false) × (contractDate tag ≡ 0)
-unfolding tagged contractDate
-untagged Absent o = (refl, refl)
-untagged Several o = (refl, refl)
-untagged Unended o = (refl, refl)
-untagged NotDate o = (refl, refl)
+untagged : (tag : Tag) → OneOf (0 ∷ 1 ∷ 2 ∷ 3 ∷ 4 ∷ []) (tagOf the-type tag) → tagged tag ≡ false
+unfolding tagged
+untagged Absent o = refl
+untagged Several o = refl
+untagged Unended o = refl
+untagged Empty o = refl
+untagged NotDate o = refl
 untagged (On d) o = absurd (no-key o)
   where
-    no-key : OneOf (0 ∷ 1 ∷ 2 ∷ 3 ∷ []) 4 → ⊥
-    no-key o = ⊎-elim (λ e. omega arith) (⊎-elim (λ e. omega arith) (⊎-elim (λ e. omega arith) (λ e. omega arith))) o
+    no-key : OneOf (0 ∷ 1 ∷ 2 ∷ 3 ∷ 4 ∷ []) 5 → ⊥
+    no-key o =
+        ⊎-elim (λ e. omega arith) (⊎-elim (λ e. omega arith) (⊎-elim (λ e. omega arith) (⊎-elim (λ e. omega arith) (λ e. omega arith)))) o
 
 no-rows-requires : tie.Need-no-rows-requires
 no-rows-requires c κs = search needs
@@ -49,37 +49,31 @@ enum-known-tag c = search needs
 returns-2 : tie.Need-returns-2
 unfolding reachedRows
 returns-2 c =
-    let u = untagged _ (c .match .keys2) in
-    rows-untagged _ _ _ _ _ (c .before .before .before .if1 .left) (c .before .before .reached-rows .ensures) (c .before .interim-end .ensures) (u .0) (u .1)
+    rows-untagged _ _ _ _ _ (c .before .before .before .if1 .left) (c .before .before .reached-rows .ensures) (c .before .interim-end .ensures)
+    (untagged _ (c .match .keys2))
 
-cast-s : tie.Need-cast-s
-cast-s c = search needs
+before-memo-requires : tie.Need-before-memo-requires
+before-memo-requires c κs = search needs
 
-security-type-requires : tie.Need-security-type-requires
-security-type-requires c κs = search needs
-
-frequency-requires : tie.Need-frequency-requires
-frequency-requires c κs = search needs
-
-maximum-for-requires : tie.Need-maximum-for-requires
-maximum-for-requires c κs =
-    let p = c .before .before .before .before .before .before .before .before .before .before .before .before .pre in
-    (p .1, subst⁻¹ (λ (k : ℕ). k ≤ 4) (c .frequency .ensures) (p .3))
-
-first-of-last-requires : tie.Need-first-of-last-requires
-first-of-last-requires c κs = search needs
-
-waiting-row-requires : tie.Need-waiting-row-requires
+rows-before-requires : tie.Need-rows-before-requires
 unfolding reachedRows
-waiting-row-requires c κs = search needs
+rows-before-requires c κs = search needs
 
 returns-3 : tie.Need-returns-3
-unfolding reachedRows maximumOf
 returns-3 c =
-    let s = c .before .before .before .before .before .before .before .before .before in
-    rows-tagged _ _ _ _ _ (s .before .before .if1 .left) (s .before .reached-rows .ensures) (s .interim-end .ensures) (c .before .before .before .before .before .before .before .tag .given .1)
-    (c .before .before .maximum-for .ensures ∙ ap₂ (maximumFor _) (c .before .before .before .before .security-type .ensures) (c .before .before .before .frequency .ensures))
-    (c .before .first-of-last .ensures) (c .waiting-row .ensures)
+    let s = c .before .before .before .before in
+    c .rows-before .ensures
+    ∙ rows-earlier _ _ _ _ _ (s .before .before .before .before .if1 .left) (s .tag .given .1) (sym (c .before .before .before-memo .ensures) ∙ c .before .if2 .taken)
+
+rows-now-requires : tie.Need-rows-now-requires
+unfolding reachedRows
+rows-now-requires c κs = search needs
+
+returns-4 : tie.Need-returns-4
+returns-4 c =
+    let s = c .before .before .before .before in
+    c .rows-now .ensures
+    ∙ rows-later _ _ _ _ _ (s .before .before .before .before .if1 .left) (s .tag .given .1) (sym (c .before .before .before-memo .ensures) ∙ c .before .if2 .left)
 
 pub recent-rows-spec : {M : Type 1} → statement M
 recent-rows-spec =
@@ -91,10 +85,8 @@ recent-rows-spec =
     interim-end-requires
     enum-known-tag
     returns-2
-    cast-s
-    security-type-requires
-    frequency-requires
-    maximum-for-requires
-    first-of-last-requires
-    waiting-row-requires
-    returns-3)
+    before-memo-requires
+    rows-before-requires
+    returns-3
+    rows-now-requires
+    returns-4)
