@@ -1,21 +1,23 @@
--- Posting an accepted transfer keeps the balances sound; before it, the laws of the code that gives the numbers 14, 7 and 8, posts and
+-- Posting an accepted transfer keeps the balances sound; before it, the laws of the code that gives the numbers 14, 15, 7 and 8, posts and
 -- clears.
 use mathlib.Core.Path.{_≡_, refl, sym, ap, _∙_, subst}
-use mathlib.Core.Bool.{Bool, true, false, cond, not, _||_}
+use mathlib.Core.Logic.{_↔_}
+use mathlib.Core.Bool.{Bool, true, false, cond, not, _&&_, _||_, and-true, and-false}
 use mathlib.Core.List.{List, [], _∷_, _++_, append-nil}
 use Prim.Native.Nat.{ℕ, zero, suc, _+_, _-_, _%_, _≤_, _<_}
 use native.Mathlib.Nat.{add-zero, zero-add, add-suc, suc-add}
 use native.Mathlib.Omega.{arith}
-use lib.Dec.{eqb, ltb}
+use lib.Dec.{eqb, leb, ltb}
 use lib.ListN.{length, getD, set, drop, replicate, length-set, drop-of-length-le}
 use borrow.Author.Fill.{fill-none, fill-more}
-use borrow.Author.Tests.{lt-ltb, le-ltb, ltb-false, le-leb, eqb-true, eq-eqb, ne-eqb, not-false}
+use borrow.Author.Tests.{lt-ltb, le-ltb, ltb-true, ltb-false, le-leb, lt-leb, leb-true, eqb-true, eq-eqb, ne-eqb, not-false}
 use Rattle.lists.specs.Tests.{and-left, and-right, and-both, cond-true}
 use Rattle.lists.specs.First.{NoneApplies, firstOf, numbered, appliesAt, cleared, cleared-by, first-none, hit, skip, none}
+use Rattle.days.specs.MemoDay.{memoDay, beforeMemo}
 use Rattle.records.specs.declared.Transfer.{Transfer}
 use Rattle.securities.specs.Lent.{pieceOf}
 use Rattle.book.specs.Book.{Position, InRange, word, position, balanceAt}
-use Rattle.book.specs.Loans.{trackingOf, stepOf, increasing, decreasing, bySender, byReceiver, Change, unchanged, increase, decrease, changeOf, changed, aboveBalance, pastLimit, loanCauses, clearsBalance, offPiece, postingCauses}
+use Rattle.book.specs.Loans.{trackingOf, stepOf, increasing, decreasing, bySender, byReceiver, Change, unchanged, increase, decrease, changeOf, changed, aboveBalance, pastLimit, loanCauses, clearsBalance, offPiece, lendsEarly, postingCauses}
 use Rattle.book.specs.Soundness.{goodBalance, goodBalancesFrom, badBalances}
 use Rattle.book.proofs.Words.{position-word}
 use Rattle.book.proofs.Judged.{sound-balances}
@@ -120,12 +122,39 @@ module _ (pieces balances : List ℕ) (t : Transfer) where
         go true e = subst (λ (c : Change). not (clearsBalance balances c (t .par)) ≡ offPiece pieces balances t) (change-increase t e) by-balance
         go false e = subst (λ (c : Change). not (clearsBalance balances c (t .par)) ≡ offPiece pieces balances t) (change-none t e f) by-balance
 
-  -- where none of 14, 7 and 8 applies, neither of 7 and 8 does
-  pub posting-clear : NoneApplies (postingCauses pieces balances t) → firstOf (loanCauses balances t) ≡ 0
+  -- where none of 14, 15, 7 and 8 applies, neither of 7 and 8 does
+  pub posting-clear : (day : ℕ) → NoneApplies (postingCauses pieces day balances t) → firstOf (loanCauses balances t) ≡ 0
   unfolding postingCauses loanCauses appliesAt
-  posting-clear n =
-      let cs = postingCauses pieces balances t in
+  posting-clear day n =
+      let cs = postingCauses pieces day balances t in
       first-none (loanCauses balances t) (cleared-by 7 cs n, (cleared-by 8 cs n, tt))
+
+-- ---- number 15
+
+module _ (day code : ℕ) where
+  pub early : 1 ≤ code → code ≤ 6 → beforeMemo day ≡ lendsEarly day code
+  unfolding lendsEarly
+  early a b = rw (le-leb 1 code a, le-leb code 6 b) (sym (and-true (beforeMemo day)))
+
+  pub no-code : code < 1 → false ≡ lendsEarly day code
+  unfolding lendsEarly
+  no-code a = rw (lt-leb 1 code a) (sym (and-false (beforeMemo day)))
+
+  pub repo-code : 6 < code → false ≡ lendsEarly day code
+  unfolding lendsEarly
+  repo-code b = rw (lt-leb code 6 b, and-false (leb 1 code)) (sym (and-false (beforeMemo day)))
+
+-- in other words: the day is before the memo, and the code is 1 to 6
+pub early-words : (day code : ℕ) → (lendsEarly day code ≡ true) ↔ ((day < memoDay) × (1 ≤ code) × (code ≤ 6))
+unfolding lendsEarly beforeMemo
+early-words day code = (
+  λ e. let r = and-right (ltb day memoDay) _ e in (
+    ltb-true day memoDay (and-left _ _ e),
+    leb-true 1 code (and-left _ _ r),
+    leb-true code 6 (and-right (leb 1 code) _ r),
+  ),
+  λ h. rw (lt-ltb day memoDay (h .0), le-leb 1 code (h .1), le-leb code 6 (h .2)),
+)
 
 -- ---- an accepted transfer
 

@@ -1,5 +1,5 @@
--- Computed rows: what each tracking code does to 8,192 balances, when it is refused, which par is off its piece (document 02, card 6), and
--- which calendars, tables, days, balances and pieces are sound.
+-- Computed rows: what each tracking code does to 8,192 balances, when it is refused, which par is off its piece (document 02, card 6),
+-- which day is before lending (card 7), and which calendars, tables, days, balances and pieces are sound.
 use mathlib.Core.Path.{_≡_, refl}
 use mathlib.Core.Bool.{Bool, true, cond, _&&_}
 use mathlib.Core.List.{List, [], _∷_}
@@ -91,8 +91,11 @@ pieces = set (set ones 3 1000) 0 7
 odd : List ℕ
 odd = set (set (replicate 8192 0) (256 * 3 + 16 * 1 + 2) 40500) (4096 + 256 * 3 + 16 * 1 + 2) 2500
 
+postingOn : ℕ → List ℕ → Transfer → ℕ → Bool
+postingOn day lent t number = eqb (firstOf (postingCauses lent day odd t)) number
+
 posting : List ℕ → Transfer → ℕ → Bool
-posting lent t number = eqb (firstOf (postingCauses lent odd t)) number
+posting lent t number = postingOn 20230404 lent t number
 
 -- a transfer without a code, a start and a start of repo, on and off the piece
 posted : Bool
@@ -131,6 +134,27 @@ posted =
     && posting ones (sent 2 1 3 40501) 7
     && posting (replicate 16 1000000) (sent 1 2 0 1000000) 0
     && posting (replicate 16 1000000) (sent 1 2 0 999999) 14
+
+-- before the 2023 memo: codes 1 to 6, also of the whole balance, above it and off the piece; then no code, repo, and the memo's day
+early : Bool
+early =
+    postingOn 20230127 pieces (sent 1 2 1 1000) 15
+    && postingOn 20230127 pieces (sent 2 1 2 1000) 15
+    && postingOn 20230127 pieces (sent 2 1 3 40500) 15
+    && postingOn 20230127 pieces (sent 1 2 4 1000) 15
+    && postingOn 20230127 pieces (sent 1 2 5 1000) 15
+    && postingOn 20230127 pieces (sent 2 1 6 1000) 15
+    && postingOn 20230129 pieces (sent 2 1 3 41000) 15
+    && postingOn 20000103 ones (sent 1 2 1 1) 15
+    && postingOn 20230127 pieces (sent 1 2 1 1500) 14
+    && postingOn 20230127 pieces (sent 2 1 3 41500) 14
+    && postingOn 20230127 pieces (sent 1 2 0 1000) 0
+    && postingOn 20230127 pieces (sent 1 2 7 1000) 0
+    && postingOn 20230127 pieces (sent 2 1 8 1000) 0
+    && postingOn 20230127 pieces (sent 2 1 12 3000) 7
+    && postingOn 20230127 pieces (sent 1 2 13 1000) 0
+    && postingOn 20230130 pieces (sent 1 2 1 1000) 0
+    && postingOn 20230130 pieces (sent 2 1 6 41000) 7
 
 -- ---- soundness
 
@@ -207,6 +231,6 @@ lentPieces =
     && eqb (pieceNumber weekdays caseTables published (set ones 15 1000001) 20230404 zeros) 13
     && eqb (pieceNumber weekdays caseTables published pieces 20230401 zeros) 4
 
-rows-hold : all holds rows && posted && judged && lent && lentPieces ≡ true
-unfolding openedBook held sent rows flag holds pieces odd posting posted number zeros judged lentNumber published lent pieceNumber lentPieces
+rows-hold : all holds rows && posted && early && judged && lent && lentPieces ≡ true
+unfolding openedBook held sent rows flag holds pieces odd postingOn posting posted early number zeros judged lentNumber published lent pieceNumber lentPieces
 rows-hold = refl

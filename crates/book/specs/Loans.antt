@@ -1,10 +1,12 @@
--- Document 01, section Loans, and document 02, card 3: what a transfer does to the par on loan and on repo; card 6: which par may be sent.
+-- Document 01, section Loans, and document 02, card 3: what a transfer does to the par on loan and on repo; card 6: which par may be
+-- sent; card 7: from which day on lending is.
 use mathlib.Core.Bool.{Bool, false, cond, not, _&&_, _||_}
 use mathlib.Core.List.{List, [], _∷_}
 use Prim.Native.Nat.{ℕ, _+_, _-_, _%_}
-use lib.Dec.{eqb, ltb}
+use lib.Dec.{eqb, leb, ltb}
 use lib.ListN.{set}
 use Rattle.lists.specs.First.{Cause, cause}
+use Rattle.days.specs.MemoDay.{beforeMemo}
 use Rattle.records.specs.declared.Transfer.{Transfer}
 use Rattle.securities.specs.Lent.{pieceOf}
 use Rattle.book.specs.Book.{largestBalance, Position, word, balanceAt}
@@ -75,6 +77,10 @@ unfoldable pub offPiece : List ℕ → List ℕ → Transfer → Bool
 offPiece pieces balances t =
     not (eqb (t .par % pieceOf pieces (t .security)) 0) && not (clearsBalance balances (changeOf t) (t .par))
 
--- Numbers 14, 7 and 8 of a transfer.
-unfoldable pub postingCauses : List ℕ → List ℕ → Transfer → List Cause
-postingCauses pieces balances t = cause 14 (offPiece pieces balances t) ∷ loanCauses balances t
+-- A lending code, 1 to 6, on a day before the 2023 memo, when lending did not yet exist: number 15.
+unfoldable pub lendsEarly : ℕ → ℕ → Bool
+lendsEarly day code = beforeMemo day && (leb 1 code && leb code 6)
+
+-- Numbers 14, 15, 7 and 8 of a transfer.
+unfoldable pub postingCauses : List ℕ → ℕ → List ℕ → Transfer → List Cause
+postingCauses pieces day balances t = cause 14 (offPiece pieces balances t) ∷ cause 15 (lendsEarly day (t .code)) ∷ loanCauses balances t

@@ -132,18 +132,6 @@ module _ (tables : List ℕ) (s contract day : ℕ) where
       let e : i ≡ end = omega (arith, k .within) in
       sym (k .rest ∙ rw e (none-from end))
 
-  -- from the row behind the reached ones on there is none
-  pub none-waits : waitingRow tables s contract day (reachedRows tables s day) ≡ reachedRows tables s day
-  unfolding waitingRow
-  none-waits = go (isMbs (typeOf (securityOf tables s)))
-    where
-      reached : ℕ
-      reached = reachedRows tables s day
-
-      go : (b : Bool) → cond b (waitingFrom tables s contract day reached reached) reached ≡ reached
-      go true = none-from reached
-      go false = refl
-
   module _ {n : ℕ} (first : ℕ) (e : n ≡ reachedRows tables s day) where
     pub waiting-other : isMbs (typeOf (securityOf tables s)) ≡ false → n ≡ waitingRow tables s contract day first
     unfolding waitingRow

@@ -1,5 +1,5 @@
-// The loans and repos of transfers (document 01, section Loans; document 02, card 3) and the pieces that par comes in (card 6): what is
-// posted to the balances, with the numbers 14, 7 and 8 of what can be refused.
+// The loans and repos of transfers (document 01, section Loans; document 02, card 3), the pieces that par comes in (card 6) and the days
+// before lending (card 7): what is posted to the balances, with the numbers 14, 15, 7 and 8 of what can be refused.
 ghost use mathlib.Core.Path.{_≡_};
 ghost use mathlib.Core.Bool.{true};
 ghost use Prim.Native.Nat.{_<_};
@@ -7,7 +7,7 @@ ghost use lib.ListN.{length};
 ghost use Rattle.lists.specs.First.{firstOf};
 ghost use Rattle.securities.specs.Lent.{goodPieces};
 ghost use Rattle.book.specs.Book.{word};
-ghost use Rattle.book.specs.Loans.{trackingOf, stepOf, increasing, decreasing, changeOf, changed, loanCauses, offPiece, postingCauses};
+ghost use Rattle.book.specs.Loans.{trackingOf, stepOf, increasing, decreasing, changeOf, changed, loanCauses, offPiece, lendsEarly, postingCauses};
 use records::Transfer;
 
 // The tracking of a code: 0 lending, 1 repo.
@@ -102,13 +102,29 @@ fn off_piece(pieces: &[u32], balances: &[u64], t: Transfer) -> bool
     true
 }
 
-// The first of the numbers 14, 7 and 8 that a transfer meets, 0 where it meets none.
-pub fn posting_number(pieces: &[u32], balances: &[u64], t: Transfer) -> u16
+// Whether a code of lending, 1 to 6, comes on a day before the 2023 memo.
+fn lends_early(day: u32, code: u8) -> bool
+    ensures { λ r. ⌜ r ≡ lendsEarly day code ⌝ }
+{
+    if code < 1 {
+        return false;
+    }
+    if 6 < code {
+        return false;
+    }
+    days::before_memo(day)
+}
+
+// The first of the numbers 14, 15, 7 and 8 that a transfer meets, 0 where it meets none.
+pub fn posting_number(pieces: &[u32], day: u32, balances: &[u64], t: Transfer) -> u16
     requires { ⌜ (goodPieces (now pieces) ≡ true) × (length (now balances) ≡ 8192) × (t .sender < 16) × (t .receiver < 16) × (t .security < 16) ⌝ }
-    ensures { λ r. ⌜ r ≡ firstOf (postingCauses (now (pieces .entry)) (now (balances .entry)) t) ⌝ }
+    ensures { λ r. ⌜ r ≡ firstOf (postingCauses (now (pieces .entry)) day (now (balances .entry)) t) ⌝ }
 {
     if off_piece(pieces, balances, t) {
         return 14;
+    }
+    if lends_early(day, t.code) {
+        return 15;
     }
     loan_number(balances, t)
 }
