@@ -19,7 +19,7 @@ use Rattle.records.specs.MessageRecords.{transferOf}
 use Rattle.securities.specs.Securities.{Row}
 use Rattle.tags.specs.ContractDateTag.{tagged}
 use Rattle.claims.specs.Amounts.{Part, ofInterest, ofPrincipal, centsOn, centsFor, factorFor, amount, failType, interimType, lendingType, repoType, Parties, claimOn}
-use Rattle.claims.specs.Fails.{messageTag, eligible, interim, Due, due, fails, dues, transferParties, transferClaims}
+use Rattle.claims.specs.Fails.{contractTag, eligible, interim, Due, due, fails, dues, transferParties, transferClaims}
 use Rattle.claims.specs.Close.{crossed, trackingType, loanParties, loanClaim, securityBalances, lenderBalances, trackingClaims, rowClaims, closeClaims}
 use Rattle.claims.proofs.Crossed.{balance-word}
 use Rattle.book.specs.Book.{Position, word, balanceAt}
@@ -91,9 +91,9 @@ sent-test : (m : List ℕ) (x : Parties) → isSent m x ≡ (eqb (transferOf m .
 unfolding isSent between transferParties
 sent-test m x = refl
 
-failed-test : (m : List ℕ) (x : Parties) → isFailed m x ≡ (fails (transferOf m) (messageTag m) && between (transferParties (transferOf m)) x)
+failed-test : (day : ℕ) (m : List ℕ) (x : Parties) → isFailed day m x ≡ (fails (transferOf m) (contractTag day m) && between (transferParties (transferOf m)) x)
 unfolding isFailed isSent fails between transferParties
-failed-test m x = and-swap (tagged (messageTag m)) (eqb (transferOf m .code) 0) _
+failed-test day m x = and-swap (tagged (contractTag day m)) (eqb (transferOf m .code) 0) _
   where
     and-swap : (a b c : Bool) → a && (b && c) ≡ (b && a) && c
     and-swap true true c = refl
@@ -152,19 +152,19 @@ module _ (calendar tables : List ℕ) (part : Part) (claimTest : ℕ → ℕ →
 
   -- a transfer pays its eligible rows if it is failed and its interim rows if its code is 0, from its sender to its receiver
   pub pays-transfer : (limits : List ℕ) (day n : ℕ) (m : List ℕ)
-      → pays (transferClaims calendar tables limits day n (transferOf m) (messageTag m))
-      ≡ cond (isFailed m x) (amounts part (claimTest failType) (transferOf m .par) (eligible tables limits day (transferOf m) (messageTag m))) 0
+      → pays (transferClaims calendar tables limits day n (transferOf m) (contractTag day m))
+      ≡ cond (isFailed day m x) (amounts part (claimTest failType) (transferOf m .par) (eligible tables limits day (transferOf m) (contractTag day m))) 0
       + cond (isSent m x) (amounts part (claimTest interimType) (transferOf m .par) (interim tables day (transferOf m))) 0
   unfolding transferClaims dues
   pays-transfer limits day n m =
       let t = transferOf m in
-      let failed = cond (fails t (messageTag m)) (map (due failType) (eligible tables limits day t (messageTag m))) [] in
+      let failed = cond (fails t (contractTag day m)) (map (due failType) (eligible tables limits day t (contractTag day m))) [] in
       let between-dates = cond (eqb (t .code) 0) (map (due interimType) (interim tables day t)) [] in
       ap pays (map-append claim failed between-dates)
       ∙ sum-append pays-by (map claim failed) (map claim between-dates)
-      ∙ rw (failed-test m x, sent-test m x)
+      ∙ rw (failed-test day m x, sent-test m x)
       (ap₂ (λ (a b : ℕ). a + b)
-      (pays-part (fails t (messageTag m)) day n (transferParties t) (t .par) failType (eligible tables limits day t (messageTag m)))
+      (pays-part (fails t (contractTag day m)) day n (transferParties t) (t .par) failType (eligible tables limits day t (contractTag day m)))
       (pays-part (eqb (t .code) 0) day n (transferParties t) (t .par) interimType (interim tables day t)))
     where
       claim : Due → Claim

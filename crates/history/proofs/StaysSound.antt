@@ -11,7 +11,7 @@ use Rattle.lists.specs.First.{cause, NoneApplies, firstOf, numbered, appliesAt,
 use Rattle.days.specs.Days.{isOpen, openAfter}
 use Rattle.days.proofs.OpenDays.{after-open, open-date}
 use Rattle.records.specs.MessageRecords.{transferKind, transferOf}
-use Rattle.claims.specs.Fails.{messageTag}
+use Rattle.claims.specs.Fails.{contractTag}
 use Rattle.tags.specs.ContractDateTag.{editCauses}
 use Rattle.book.specs.declared.Book.{Book}
 use Rattle.book.specs.Loans.{loanCauses}
@@ -55,11 +55,11 @@ module _ (calendar tables : List ℕ) (book : Book) (balances : List ℕ) (z : f
   unfolding causes callCauses transferCauses
   loans-clear a e =
       let t = transferOf (a .message) in
-      let tag = messageTag (a .message) in
+      let tag = contractTag (book .day) (a .message) in
       let all = accepted-iff calendar tables book balances (transfer a) .0 e in
       let own = none-right (recordCauses transferKind (a .message)) _ (none-right (soundCauses calendar tables (book .day) balances (transfer a)) _ all) in
       let fields = none-left (transferCauses tables (a .pieces) book balances t tag) (roomCauses (claimsOf calendar tables book balances (transfer a)) (a .buffer)) own in
-      posting-clear (a .pieces) balances t
+      posting-clear (a .pieces) balances t (book .day)
       (none-right (countCauses (book .count)) _
       (none-right (editCauses tag (t .class) (book .day)) _ (none-right (fieldCauses tables t) _ fields)))
 

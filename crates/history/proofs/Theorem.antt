@@ -13,7 +13,7 @@ use Rattle.records.specs.MessageRecords.{transferOf}
 use Rattle.securities.specs.Securities.{Row, goodTables}
 use Rattle.securities.proofs.Sound.{sound-rows}
 use Rattle.claims.specs.Amounts.{Part, Parties}
-use Rattle.claims.specs.Fails.{messageTag, transferParties}
+use Rattle.claims.specs.Fails.{contractTag, transferParties}
 use Rattle.claims.specs.Close.{crossed, closeClaims}
 use Rattle.claims.specs.Written.{readings, AllRead}
 use Rattle.claims.proofs.Crossed.{balance-word, rising-crossed}
@@ -47,7 +47,7 @@ module _ (calendar tables : List ℕ) where
       let t = transferOf (a .message) in
       let f = k .fields in
       let s = k .sound .tables-sound in
-      fit-transfer calendar tables (kept s) (a .limits) (book .day) (book .count + 1) t (messageTag (a .message)) (omega (arith, k .count))
+      fit-transfer calendar tables (kept s) (a .limits) (book .day) (book .count + 1) t (contractTag (book .day) (a .message)) (omega (arith, k .count))
       (record { security = f .security; payee = f .receiver; payer = f .sender }) (omega (arith, f .par))
       (sound-rows calendar tables (t .security) (s .table-rules) (f .security))
   fit-claims book balances (close a) e =

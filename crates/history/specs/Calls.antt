@@ -5,7 +5,7 @@ use Prim.Native.Nat.{ℕ, _+_}
 use Rattle.records.specs.declared.Claim.{Claim}
 use Rattle.book.specs.declared.Book.{Book}
 use Rattle.records.specs.MessageRecords.{transferOf}
-use Rattle.claims.specs.Fails.{messageTag, maximumNumbers, transferClaims}
+use Rattle.claims.specs.Fails.{contractTag, maximumNumbers, transferClaims}
 use Rattle.claims.specs.Close.{closeClaims}
 
 -- A call's own arguments: its message, and its claim buffer as the call finds it.
@@ -35,8 +35,9 @@ unfoldable pub bufferOf : Call → List ℕ
 bufferOf (transfer a) = a .buffer
 bufferOf (close a) = a .buffer
 
--- The claims of a call on a book and balances. Accepted transfers of every code are numbered from 1.
+-- The claims of a call on a book and balances; a transfer's tag is as the book's day takes it. Accepted transfers of every code are
+-- numbered from 1.
 unfoldable pub claimsOf : List ℕ → List ℕ → Book → List ℕ → Call → List Claim
 claimsOf calendar tables book balances (transfer a) =
-    transferClaims calendar tables (a .limits) (book .day) (book .count + 1) (transferOf (a .message)) (messageTag (a .message))
+    transferClaims calendar tables (a .limits) (book .day) (book .count + 1) (transferOf (a .message)) (contractTag (book .day) (a .message))
 claimsOf calendar tables book balances (close a) = closeClaims calendar tables (book .day) balances

@@ -1,4 +1,4 @@
--- Document 01, section What can be refused, and document 02, cards 5 and 6: the causes of each call in the papers' order, in groups, and the
+-- Document 01, section What can be refused, and document 02, cards 5, 6 and 7: the causes of each call in the papers' order, in groups, and the
 -- number of the first.
 use mathlib.Core.Bool.{Bool, not, _||_}
 use mathlib.Core.List.{List, [], _∷_, _++_}
@@ -13,7 +13,7 @@ use Rattle.records.specs.MessageRecords.{Kind, transferKind, closeKind, transfe
 use Rattle.securities.specs.Securities.{securityOf, typeOf}
 use Rattle.tags.specs.declared.Tag.{Tag}
 use Rattle.tags.specs.ContractDateTag.{editCauses}
-use Rattle.claims.specs.Fails.{messageTag}
+use Rattle.claims.specs.Fails.{contractTag}
 use Rattle.claims.specs.Written.{claimSize}
 use Rattle.book.specs.declared.Book.{Book}
 use Rattle.book.specs.Loans.{postingCauses}
@@ -60,13 +60,13 @@ transferCauses tables pieces book balances t tag =
     fieldCauses tables t
     ++ (editCauses tag (t .class) (book .day)
     ++ (countCauses (book .count)
-    ++ postingCauses pieces balances t))
+    ++ postingCauses pieces (book .day) balances t))
 
 -- Those behind the causes of what it is lent.
 unfoldable pub callCauses : List ℕ → List ℕ → Book → List ℕ → Call → List Cause
 callCauses calendar tables book balances (transfer a) =
     recordCauses transferKind (a .message)
-    ++ (transferCauses tables (a .pieces) book balances (transferOf (a .message)) (messageTag (a .message))
+    ++ (transferCauses tables (a .pieces) book balances (transferOf (a .message)) (contractTag (book .day) (a .message))
     ++ roomCauses (claimsOf calendar tables book balances (transfer a)) (a .buffer))
 callCauses calendar tables book balances (close a) =
     recordCauses closeKind (a .message)

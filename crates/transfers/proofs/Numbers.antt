@@ -12,9 +12,9 @@ use Rattle.lists.specs.First.{NoneApplies, firstOf, numbered, appliesAt, none-a
 use Rattle.records.specs.declared.Transfer.{Transfer}
 use Rattle.records.specs.MessageRecords.{transferKind, transferOf, firstLine, secondLine, reads}
 use Rattle.tags.specs.declared.Tag.{Tag}
-use Rattle.tags.specs.ContractDateTag.{tagOf, editCauses}
+use Rattle.tags.specs.ContractDateTag.{tagOf, onDay, editCauses}
 use Rattle.tags.proofs.Causes.{edits-numbered}
-use Rattle.claims.specs.Fails.{messageTag, transferClaims}
+use Rattle.claims.specs.Fails.{messageTag, contractTag, transferClaims}
 use Rattle.book.specs.declared.Book.{Book}
 use Rattle.book.specs.Loans.{loanCauses, postingCauses}
 use Rattle.book.proofs.Posted.{posting-clear}
@@ -44,7 +44,7 @@ module _ (tables pieces : List ℕ) (book : Book) (balances : List ℕ) (t : Tra
       count-number h =
           skip 6 _ o (skip-group (editCauses tag (t .class) (book .day)) _ (edits-numbered tag (t .class) (book .day)) e z (hit 11 _ (le-leb 4294967295 (book .count) h)))
 
-      pub posting-decides : (k : ℕ) → book .count < 4294967295 → k ≡ firstOf (postingCauses pieces balances t) → k ≡ firstOf (transferCauses tables pieces book balances t tag)
+      pub posting-decides : (k : ℕ) → book .count < 4294967295 → k ≡ firstOf (postingCauses pieces (book .day) balances t) → k ≡ firstOf (transferCauses tables pieces book balances t tag)
       unfolding transferCauses fieldCauses countCauses
       posting-decides k h q =
           skip 6 _ o (skip-group (editCauses tag (t .class) (book .day)) _ (edits-numbered tag (t .class) (book .day)) e z (skip 11 _ (lt-leb 4294967295 (book .count) h) q))
@@ -67,17 +67,17 @@ module _ (tables pieces : List ℕ) (book : Book) (balances : List ℕ) (t : Tra
       record {
         fields = fields tables t (cleared-by 6 cs n);
         count = leb-false 4294967295 (book .count) (counted n);
-        loan = posting-clear pieces balances t
-            (none-right (countCauses (book .count)) (postingCauses pieces balances t)
-            (none-right (editCauses tag (t .class) (book .day)) (countCauses (book .count) ++ postingCauses pieces balances t)
-            (none-right (fieldCauses tables t) (editCauses tag (t .class) (book .day) ++ (countCauses (book .count) ++ postingCauses pieces balances t)) n)));
+        loan = posting-clear pieces balances t (book .day)
+            (none-right (countCauses (book .count)) (postingCauses pieces (book .day) balances t)
+            (none-right (editCauses tag (t .class) (book .day)) (countCauses (book .count) ++ postingCauses pieces (book .day) balances t)
+            (none-right (fieldCauses tables t) (editCauses tag (t .class) (book .day) ++ (countCauses (book .count) ++ postingCauses pieces (book .day) balances t)) n)));
       }
     where
       counted : NoneApplies (transferCauses tables pieces book balances t tag) → leb 4294967295 (book .count) ≡ false
       counted n =
-          none-left (countCauses (book .count)) (postingCauses pieces balances t)
-          (none-right (editCauses tag (t .class) (book .day)) (countCauses (book .count) ++ postingCauses pieces balances t)
-          (none-right (fieldCauses tables t) (editCauses tag (t .class) (book .day) ++ (countCauses (book .count) ++ postingCauses pieces balances t)) n)) .0
+          none-left (countCauses (book .count)) (postingCauses pieces (book .day) balances t)
+          (none-right (editCauses tag (t .class) (book .day)) (countCauses (book .count) ++ postingCauses pieces (book .day) balances t)
+          (none-right (fieldCauses tables t) (editCauses tag (t .class) (book .day) ++ (countCauses (book .count) ++ postingCauses pieces (book .day) balances t)) n)) .0
 
 -- ---- the causes of a transfer on a sound book
 
@@ -87,38 +87,38 @@ module _ (calendar tables : List ℕ) (book : Book) (balances : List ℕ) (a : T
   transfer-cut r = hit 5 _ (ap not r)
 
   module _ (r : reads transferKind (a .message) ≡ true) (n : ℕ)
-      (e : n ≡ firstOf (transferCauses tables (a .pieces) book balances (transferOf (a .message)) (messageTag (a .message)))) where
+      (e : n ≡ firstOf (transferCauses tables (a .pieces) book balances (transferOf (a .message)) (contractTag (book .day) (a .message)))) where
     pub transfer-refused : (n ≡ 0 → ⊥) → n ≡ firstOf (callCauses calendar tables book balances (transfer a))
     unfolding callCauses recordCauses
-    transfer-refused d = skip 5 _ (ap not r) (hit-group (transferCauses tables (a .pieces) book balances (transferOf (a .message)) (messageTag (a .message))) _ e d)
+    transfer-refused d = skip 5 _ (ap not r) (hit-group (transferCauses tables (a .pieces) book balances (transferOf (a .message)) (contractTag (book .day) (a .message))) _ e d)
 
     module _ (z : n ≡ 0) where
-      pub transfer-room : length (a .buffer) < 35 * length (transferClaims calendar tables (a .limits) (book .day) (book .count + 1) (transferOf (a .message)) (messageTag (a .message)))
+      pub transfer-room : length (a .buffer) < 35 * length (transferClaims calendar tables (a .limits) (book .day) (book .count + 1) (transferOf (a .message)) (contractTag (book .day) (a .message)))
           → 10 ≡ firstOf (callCauses calendar tables book balances (transfer a))
       unfolding callCauses recordCauses roomCauses claimsOf
       transfer-room h =
           skip 5 _ (ap not r)
-          (skip-group (transferCauses tables (a .pieces) book balances (transferOf (a .message)) (messageTag (a .message))) _ (numbered-transfer tables (a .pieces) book balances _ _) e z
+          (skip-group (transferCauses tables (a .pieces) book balances (transferOf (a .message)) (contractTag (book .day) (a .message))) _ (numbered-transfer tables (a .pieces) book balances _ _) e z
           (hit 10 [] (lt-ltb _ _ h)))
 
-      pub transfer-accepted : 35 * length (transferClaims calendar tables (a .limits) (book .day) (book .count + 1) (transferOf (a .message)) (messageTag (a .message))) ≤ length (a .buffer)
+      pub transfer-accepted : 35 * length (transferClaims calendar tables (a .limits) (book .day) (book .count + 1) (transferOf (a .message)) (contractTag (book .day) (a .message))) ≤ length (a .buffer)
           → 0 ≡ firstOf (callCauses calendar tables book balances (transfer a))
       unfolding callCauses recordCauses roomCauses claimsOf
       transfer-accepted h =
           skip 5 _ (ap not r)
-          (skip-group (transferCauses tables (a .pieces) book balances (transferOf (a .message)) (messageTag (a .message))) _ (numbered-transfer tables (a .pieces) book balances _ _) e z
+          (skip-group (transferCauses tables (a .pieces) book balances (transferOf (a .message)) (contractTag (book .day) (a .message))) _ (numbered-transfer tables (a .pieces) book balances _ _) e z
           (skip 10 [] (le-ltb _ _ h) none))
 
 -- ---- the same, said of the fields and the tag that code has read
 
 module _ (calendar tables : List ℕ) (book : Book) (balances : List ℕ) (a : TransferArguments) (r : reads transferKind (a .message) ≡ true)
-    (t : Transfer) (tag : Tag) (p : t ≡ transferOf (a .message)) (q : tag ≡ messageTag (a .message))
+    (t : Transfer) (tag : Tag) (p : t ≡ transferOf (a .message)) (q : tag ≡ contractTag (book .day) (a .message))
     (n : ℕ) (e : n ≡ firstOf (transferCauses tables (a .pieces) book balances t tag)) where
-  same-causes : n ≡ firstOf (transferCauses tables (a .pieces) book balances (transferOf (a .message)) (messageTag (a .message)))
+  same-causes : n ≡ firstOf (transferCauses tables (a .pieces) book balances (transferOf (a .message)) (contractTag (book .day) (a .message)))
   same-causes = e ∙ ap₂ (λ (x : Transfer) (y : Tag). firstOf (transferCauses tables (a .pieces) book balances x y)) p q
 
   pub same-claims : transferClaims calendar tables (a .limits) (book .day) (book .count + 1) t tag
-      ≡ transferClaims calendar tables (a .limits) (book .day) (book .count + 1) (transferOf (a .message)) (messageTag (a .message))
+      ≡ transferClaims calendar tables (a .limits) (book .day) (book .count + 1) (transferOf (a .message)) (contractTag (book .day) (a .message))
   same-claims = ap₂ (transferClaims calendar tables (a .limits) (book .day) (book .count + 1)) p q
 
   pub read-refused : (n ≡ 0 → ⊥) → n ≡ firstOf (callCauses calendar tables book balances (transfer a))
@@ -133,7 +133,8 @@ module _ (calendar tables : List ℕ) (book : Book) (balances : List ℕ) (a : T
         → 0 ≡ firstOf (callCauses calendar tables book balances (transfer a))
     read-accepted h = transfer-accepted calendar tables book balances a r n same-causes z (omega (arith, ap length same-claims))
 
--- the tag of a message by its two lines
-pub tag-read : (m : List ℕ) {tag : Tag} {first second : List ℕ} → tag ≡ tagOf first second → first ≡ firstLine m → second ≡ secondLine m → tag ≡ messageTag m
-unfolding messageTag
-tag-read m e f s = e ∙ ap₂ tagOf f s
+-- the tag of a message by its two lines, on a day
+pub tag-read : (day : ℕ) (m : List ℕ) {tag : Tag} {first second : List ℕ} → tag ≡ onDay day (tagOf first second) → first ≡ firstLine m → second ≡ secondLine m
+    → tag ≡ contractTag day m
+unfolding contractTag messageTag
+tag-read day m e f s = e ∙ ap (onDay day) (ap₂ tagOf f s)

@@ -1,4 +1,4 @@
-// The transfer call (document 01, sections Fail claims and Loans; document 02, cards 1, 5 and 6): a message is judged, its par is posted,
+// The transfer call (document 01, sections Fail claims and Loans; document 02, cards 1, 5, 6 and 7): a message is judged, its par is posted,
 // and its claims are written. Every form is lent the pieces of the securities. The form with limits is lent maximum numbers of Beneficiary
 // Dates too, the form without them keeps the published ones.
 ghost use mathlib.Core.Path.{_≡_};
@@ -60,7 +60,7 @@ fn out_of_range(tables: &[u32], t: Transfer) -> bool
     t.sender == t.receiver
 }
 
-// The first of the numbers 6, 132 to 139, 11, 14, 7 and 8 that a transfer meets, 0 where it meets none.
+// The first of the numbers 6, 132 to 139, 11, 14, 15, 7 and 8 that a transfer meets, 0 where it meets none.
 fn own_number(
     tables: &[u32],
     pieces: &[u32],
@@ -82,7 +82,7 @@ fn own_number(
     if 4294967295 <= book.count {
         return 11;
     }
-    loans::posting_number(pieces, balances, t)
+    loans::posting_number(pieces, book.day, balances, t)
 }
 
 // The transfer of a sound book with good limits, good pieces and a message that reads.
@@ -103,7 +103,11 @@ fn transfer_read(
         (lentTransfer (now (limits .entry)) (now (pieces .entry)) (record { message = now (message .entry); buffer = now (claims .entry) }))
         r (now (claims .exit)) (now (balances .exit)) ⌝ }
 {
-    let tag = tags::tag_of(reading::first_line(message), reading::second_line(message));
+    let tag = tags::tag_on(
+        book.day,
+        reading::first_line(message),
+        reading::second_line(message),
+    );
     let number = own_number(tables, pieces, book, balances, t, tag);
     if number != 0 {
         return book::refused(number, book);

@@ -3,6 +3,7 @@ use mathlib.Core.Path.{refl, sym, ap, _∙_, subst, subst⁻¹}
 use mathlib.Core.List.{List}
 use Prim.Native.Nat.{_+_, _≤_}
 use lib.ListN.{length}
+use Rattle.days.proofs.OpenDays.{open-date}
 use Rattle.records.specs.declared.Claim.{Claim}
 use Rattle.records.specs.declared.Transfer.{Transfer}
 use Rattle.records.proofs.Readings.{transfer-long, first-line-length, second-line-length}
@@ -32,8 +33,8 @@ first-line-requires c κs = transfer-long _ (c .before .before .before .before .
 second-line-requires : tie.Need-second-line-requires
 second-line-requires c κs = transfer-long _ (c .before .before .before .before .before .before .before .before .pre .1)
 
-tag-of-requires : tie.Need-tag-of-requires
-tag-of-requires c κs =
+tag-on-requires : tie.Need-tag-on-requires
+tag-on-requires c κs =
     let h = transfer-long _ (c .before .before .before .before .before .before .before .before .before .pre .1) in
     (ap length (c .before .first-line .ensures) ∙ first-line-length _ h, ap length (c .second-line .ensures) ∙ second-line-length _ h)
 
@@ -56,7 +57,7 @@ returns c =
     let a = s .args in
     rw (c .refused .ensures)
     (answers-refused (a .calendar .now) (a .tables .now) (a .book) (a .balances .now) (transfer (record { message = a .message .now; buffer = a .claims .now; limits = a .limits .now; pieces = a .pieces .now })) _
-    (sound-number (a .calendar .now) (a .tables .now) (a .book) (a .balances .now) (transfer (record { message = a .message .now; buffer = a .claims .now; limits = a .limits .now; pieces = a .pieces .now })) _ (s .pre .0) (read-refused (a .calendar .now) (a .tables .now) (a .book) (a .balances .now) (record { message = a .message .now; buffer = a .claims .now; limits = a .limits .now; pieces = a .pieces .now }) (s .pre .1) (a .t) _ (s .pre .2) (tag-read (a .message .now) (c .before .before .before .before .tag-of .ensures) (c .before .before .before .before .before .before .first-line .ensures) (c .before .before .before .before .before .second-line .ensures)) _ (c .before .before .own-number .ensures) (c .before .if1 .taken)))
+    (sound-number (a .calendar .now) (a .tables .now) (a .book) (a .balances .now) (transfer (record { message = a .message .now; buffer = a .claims .now; limits = a .limits .now; pieces = a .pieces .now })) _ (s .pre .0) (read-refused (a .calendar .now) (a .tables .now) (a .book) (a .balances .now) (record { message = a .message .now; buffer = a .claims .now; limits = a .limits .now; pieces = a .pieces .now }) (s .pre .1) (a .t) _ (s .pre .2) (tag-read (a .book .day) (a .message .now) (c .before .before .before .before .tag-on .ensures) (c .before .before .before .before .before .before .first-line .ensures) (c .before .before .before .before .before .second-line .ensures)) _ (c .before .before .own-number .ensures) (c .before .if1 .taken)))
     (c .before .if1 .taken))
 
 add-count : tie.Need-add-count
@@ -65,15 +66,22 @@ add-count c = let f = passed _ _ _ _ _ _ (sym (c .before .before .own-number .en
 recent-rows-requires : tie.Need-recent-rows-requires
 recent-rows-requires c κs =
     let p = c .before .before .before .before .before .before .before .before .before .before .before .before .before .before .pre .0 in
-    let k = judged.lent-sound _ _ _ _ _ _ p .tables-sound in
+    let b = judged.lent-sound _ _ _ _ _ _ p in
+    let k = b .tables-sound in
     let f = passed _ _ _ _ _ _ (sym (c .before .before .own-number .ensures) ∙ c .before .if1 .left) .fields in
-    (k .table-words, judged.lent-limits _ _ _ _ _ _ p, f .security, small-frequency _ _ _ (k .table-rules) (f .security))
+    (
+      k .table-words,
+      judged.lent-limits _ _ _ _ _ _ p,
+      f .security,
+      small-frequency _ _ _ (k .table-rules) (f .security),
+      open-date _ _ (b .day-sound .open-day),
+    )
 
 -- the claims on the rows are the transfer's
 abbrev Claims : tie.After-recent-rows → Type 0
 Claims c =
     let a = c .before .before .before .before .before .before .before .before .before .before .before .before .before .before .before .args in
-    Recently (a .calendar .now) (a .tables .now) (a .limits .now) (a .book .day) (a .book .count + 1) (a .t) (c .before .before .before .before .before .tag-of .result) (c .recent-rows .result)
+    Recently (a .calendar .now) (a .tables .now) (a .limits .now) (a .book .day) (a .book .count + 1) (a .t) (c .before .before .before .before .before .tag-on .result) (c .recent-rows .result)
 
 claims-on : (c : tie.After-recent-rows) → Claims c
 claims-on c =
@@ -81,8 +89,8 @@ claims-on c =
     let a = s .args in
     let k = judged.lent-sound _ _ _ _ _ _ (s .pre .0) .tables-sound in
     let f = passed _ _ _ _ _ _ (sym (c .before .before .before .own-number .ensures) ∙ c .before .before .if1 .left) .fields in
-    subst⁻¹ (Recently (a .calendar .now) (a .tables .now) (a .limits .now) (a .book .day) (a .book .count + 1) (a .t) (c .before .before .before .before .before .tag-of .result)) (c .recent-rows .ensures)
-    (recently (a .calendar .now) (a .tables .now) (a .limits .now) (a .book .day) (a .book .count + 1) (a .t) (k .table-rules) (f .security) (c .before .before .before .before .before .tag-of .result))
+    subst⁻¹ (Recently (a .calendar .now) (a .tables .now) (a .limits .now) (a .book .day) (a .book .count + 1) (a .t) (c .before .before .before .before .before .tag-on .result)) (c .recent-rows .ensures)
+    (recently (a .calendar .now) (a .tables .now) (a .limits .now) (a .book .day) (a .book .count + 1) (a .t) (k .table-rules) (f .security) (c .before .before .before .before .before .tag-on .result))
 
 -- they are few
 few-on : (c : tie.After-recent-rows)
@@ -93,7 +101,7 @@ few-on c =
     let k = judged.lent-sound _ _ _ _ _ _ (s .pre .0) .tables-sound in
     let f = passed _ _ _ _ _ _ (sym (c .before .before .before .own-number .ensures) ∙ c .before .before .if1 .left) .fields in
     subst (λ (l : List Claim). length l ≤ 16) (claims-on c .claims)
-    (few-transfer (a .tables .now) (a .limits .now) (a .book .day) (a .t) (c .before .before .before .before .before .tag-of .result) (a .calendar .now) (a .book .count + 1)
+    (few-transfer (a .tables .now) (a .limits .now) (a .book .day) (a .t) (c .before .before .before .before .before .tag-on .result) (a .calendar .now) (a .book .count + 1)
     (sound-rows (a .calendar .now) (a .tables .now) (a .t .security) (k .table-rules) (f .security) .beneficiaries))
 
 -- what they ask is there
@@ -128,7 +136,7 @@ returns-2 c =
     rw (c .refused2 .ensures, p .bytes)
     (answers-refused (a .calendar .now) (a .tables .now) (a .book) (a .balances .now) (transfer (record { message = a .message .now; buffer = a .claims .now; limits = a .limits .now; pieces = a .pieces .now })) _
     (sound-number (a .calendar .now) (a .tables .now) (a .book) (a .balances .now) (transfer (record { message = a .message .now; buffer = a .claims .now; limits = a .limits .now; pieces = a .pieces .now })) _ (s .pre .0)
-    (read-room (a .calendar .now) (a .tables .now) (a .book) (a .balances .now) (record { message = a .message .now; buffer = a .claims .now; limits = a .limits .now; pieces = a .pieces .now }) (s .pre .1) (a .t) _ (s .pre .2) (tag-read (a .message .now) (c .before .before .before .before .before .before .before .before .before .before .before .tag-of .ensures) (c .before .before .before .before .before .before .before .before .before .before .before .before .before .first-line .ensures) (c .before .before .before .before .before .before .before .before .before .before .before .before .second-line .ensures)) _ (c .before .before .before .before .before .before .before .before .before .own-number .ensures) (c .before .before .before .before .before .before .before .before .if1 .left) (omega (arith, p .next, ap length (claims-on (c .before .before .before .before .before .before) .claims), c .before .if2 .taken, c .before .before .before .before .transfer-claims .kept .1 .0))))
+    (read-room (a .calendar .now) (a .tables .now) (a .book) (a .balances .now) (record { message = a .message .now; buffer = a .claims .now; limits = a .limits .now; pieces = a .pieces .now }) (s .pre .1) (a .t) _ (s .pre .2) (tag-read (a .book .day) (a .message .now) (c .before .before .before .before .before .before .before .before .before .before .before .tag-on .ensures) (c .before .before .before .before .before .before .before .before .before .before .before .before .before .first-line .ensures) (c .before .before .before .before .before .before .before .before .before .before .before .before .second-line .ensures)) _ (c .before .before .before .before .before .before .before .before .before .own-number .ensures) (c .before .before .before .before .before .before .before .before .if1 .left) (omega (arith, p .next, ap length (claims-on (c .before .before .before .before .before .before) .claims), c .before .if2 .taken, c .before .before .before .before .transfer-claims .kept .1 .0))))
     (λ z. omega arith))
 
 post-requires : tie.Need-post-requires
@@ -161,10 +169,10 @@ returns-3 c =
     let p = c .before .before .before .before .before .before .before .before .before .before .before .transfer-claims .ensures in
     let q = c .before .before .transfer-claims2 .ensures in
     let w = claims-on (c .before .before .before .before .before .before .before .before .before .before .before .before .before) .claims in
-    let e = same-claims (a .calendar .now) (a .tables .now) (a .book) (a .balances .now) (record { message = a .message .now; buffer = a .claims .now; limits = a .limits .now; pieces = a .pieces .now }) (s .pre .1) (a .t) _ (s .pre .2) (tag-read (a .message .now) (c .before .before .before .before .before .before .before .before .before .before .before .before .before .before .before .before .before .before .tag-of .ensures) (c .before .before .before .before .before .before .before .before .before .before .before .before .before .before .before .before .before .before .before .before .first-line .ensures) (c .before .before .before .before .before .before .before .before .before .before .before .before .before .before .before .before .before .before .before .second-line .ensures)) _ (c .before .before .before .before .before .before .before .before .before .before .before .before .before .before .before .before .own-number .ensures) in
+    let e = same-claims (a .calendar .now) (a .tables .now) (a .book) (a .balances .now) (record { message = a .message .now; buffer = a .claims .now; limits = a .limits .now; pieces = a .pieces .now }) (s .pre .1) (a .t) _ (s .pre .2) (tag-read (a .book .day) (a .message .now) (c .before .before .before .before .before .before .before .before .before .before .before .before .before .before .before .before .before .before .tag-on .ensures) (c .before .before .before .before .before .before .before .before .before .before .before .before .before .before .before .before .before .before .before .before .first-line .ensures) (c .before .before .before .before .before .before .before .before .before .before .before .before .before .before .before .before .before .before .before .second-line .ensures)) _ (c .before .before .before .before .before .before .before .before .before .before .before .before .before .before .before .before .own-number .ensures) in
     answers-accepted (a .calendar .now) (a .tables .now) (a .book) (a .balances .now) (transfer (record { message = a .message .now; buffer = a .claims .now; limits = a .limits .now; pieces = a .pieces .now })) _ _ _ _
     (sound-number (a .calendar .now) (a .tables .now) (a .book) (a .balances .now) (transfer (record { message = a .message .now; buffer = a .claims .now; limits = a .limits .now; pieces = a .pieces .now })) _ (s .pre .0)
-    (read-accepted (a .calendar .now) (a .tables .now) (a .book) (a .balances .now) (record { message = a .message .now; buffer = a .claims .now; limits = a .limits .now; pieces = a .pieces .now }) (s .pre .1) (a .t) _ (s .pre .2) (tag-read (a .message .now) (c .before .before .before .before .before .before .before .before .before .before .before .before .before .before .before .before .before .before .tag-of .ensures) (c .before .before .before .before .before .before .before .before .before .before .before .before .before .before .before .before .before .before .before .before .first-line .ensures) (c .before .before .before .before .before .before .before .before .before .before .before .before .before .before .before .before .before .before .before .second-line .ensures)) _ (c .before .before .before .before .before .before .before .before .before .before .before .before .before .before .before .before .own-number .ensures) (c .before .before .before .before .before .before .before .before .before .before .before .before .before .before .before .if1 .left) (omega (arith, p .next, ap length w, c .before .before .before .before .before .before .before .before .if2 .left, c .before .before .before .before .before .before .before .before .before .before .before .transfer-claims .kept .1 .0))))
+    (read-accepted (a .calendar .now) (a .tables .now) (a .book) (a .balances .now) (record { message = a .message .now; buffer = a .claims .now; limits = a .limits .now; pieces = a .pieces .now }) (s .pre .1) (a .t) _ (s .pre .2) (tag-read (a .book .day) (a .message .now) (c .before .before .before .before .before .before .before .before .before .before .before .before .before .before .before .before .before .before .tag-on .ensures) (c .before .before .before .before .before .before .before .before .before .before .before .before .before .before .before .before .before .before .before .before .first-line .ensures) (c .before .before .before .before .before .before .before .before .before .before .before .before .before .before .before .before .before .before .before .second-line .ensures)) _ (c .before .before .before .before .before .before .before .before .before .before .before .before .before .before .before .before .own-number .ensures) (c .before .before .before .before .before .before .before .before .before .before .before .before .before .before .before .if1 .left) (omega (arith, p .next, ap length w, c .before .before .before .before .before .before .before .before .if2 .left, c .before .before .before .before .before .before .before .before .before .before .before .transfer-claims .kept .1 .0))))
     refl
     (omega (arith, q .next, ap length w, ap length e))
     (passed-written _ _ _ _ _ _ p q ∙ ap (λ x. written x (a .claims .now)) (sym w ∙ e))
@@ -176,7 +184,7 @@ transfer-read-spec =
     (tie.spec
     first-line-requires
     second-line-requires
-    tag-of-requires
+    tag-on-requires
     own-number-requires
     refused-requires
     same-length
