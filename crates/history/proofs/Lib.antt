@@ -11,6 +11,7 @@ pub mod Rows
 pub mod RepoRows
 pub mod LimitRows
 pub mod PieceRows
+pub mod MemoRows
 pub mod Answers
 pub mod StaysSound
 pub mod Continuation

@@ -68,8 +68,7 @@ recent-rows-requires c κs =
     let p = c .before .before .before .before .before .before .before .before .before .before .before .before .before .before .pre .0 in
     let b = judged.lent-sound _ _ _ _ _ _ p in
     let k = b .tables-sound in
-    let f = passed _ _ _ _ _ _ (sym (c .before .before .own-number .ensures) ∙ c .before .if1 .left) .fields in
-    (
+    let f = passed _ _ _ _ _ _ (sym (c .before .before .own-number .ensures) ∙ c .before .if1 .left) .fields in (
       k .table-words,
       judged.lent-limits _ _ _ _ _ _ p,
       f .security,
