@@ -59,7 +59,7 @@ module _ (calendar tables : List ℕ) (book : Book) (balances : List ℕ) (z : f
       let all = accepted-iff calendar tables book balances (transfer a) .0 e in
       let own = none-right (recordCauses transferKind (a .message)) _ (none-right (soundCauses calendar tables (book .day) balances (transfer a)) _ all) in
       let fields = none-left (transferCauses tables (a .pieces) book balances t tag) (roomCauses (claimsOf calendar tables book balances (transfer a)) (a .buffer)) own in
-      posting-clear (a .pieces) balances t (book .day)
+      posting-clear (a .pieces) balances t _
       (none-right (countCauses (book .count)) _
       (none-right (editCauses tag (t .class) (book .day)) _ (none-right (fieldCauses tables t) _ fields)))
 
