@@ -147,3 +147,11 @@ module _ (tables limits : List ℕ) (day : ℕ) (t : Transfer) (tag : Tag) where
   few-transfer calendar number e =
       let claimed = select-within (λ (row : Row). isFailDue row || isInterimDue row) rows in
       simp length-map (omega (arith, few-filled, claimed, ap length (dues-rows e), length-map (dues tables limits day t tag) (λ d. d .row)))
+
+-- ---- before the 2023 memo
+
+-- limits are not used: with others the claims are the same
+pub limits-unused : (calendar tables limits others : List ℕ) (day number : ℕ) (t : Transfer) (tag : Tag) → beforeMemo day ≡ true
+    → transferClaims calendar tables limits day number t tag ≡ transferClaims calendar tables others day number t tag
+unfolding transferClaims dues eligible
+limits-unused calendar tables limits others day number t tag d = rw d refl
