@@ -547,6 +547,14 @@ class BeforeTheMemo(unittest.TestCase):
                     self.assertEqual(self.claims(self.OLD, TAG % 20221101), self.fails(7, 8, 9) if kind >= 3 else [])
                     self.assertTrue(self.claims(self.NEW, TAG % 20221101))
 
+    def test_fails_by_dates(self):
+        """Rows behind the Contract Date, up to the day, and within six months of it."""
+        for day, contract, rows in ((self.OLD, 20221010, range(6, 10)), (self.OLD, 20221011, range(7, 10)),
+                                    (self.OLD, 20220411, range(4, 10)), (20230110, 20221210, [8]), (20230111, 20221210, [8, 9]),
+                                    (20230111, 20230110, [9]), (20230111, 20230111, []), (20221011, 20220101, range(7)),
+                                    (20221012, 20220101, range(1, 7))):
+            self.assertEqual(self.claims(day, TAG % contract), self.fails(*rows), (day, contract))
+
     def half_year_before(self, day):
         """The same day six months before, or the last of that month, by Python's own calendar."""
         year, month = divmod(12 * day.year + day.month - 1 - 6, 12)
