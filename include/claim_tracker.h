@@ -20,7 +20,7 @@
    Limits: 5 words, lent to claim_tracker_transfer_with_limits alone: the maximum numbers of Beneficiary Dates that a fail looks at, the
    most recent ones. The first is for types 3 and 4, the others are for types 1 and 2 by frequency: monthly, quarterly, semiannual, annual.
    Each is 1 to 16, and from monthly to annual none is larger than the one before. Limits of another length, or that break this, are
-   refused with 12. All other calls keep the published numbers:
+   refused with 12. On a book's day before 20230130 they are judged and not used. All other calls keep the published numbers:
        7, 6, 3, 2, 1
 
    Pieces: 16 words, lent with every transfer: word s is the piece of security s, the par that it is delivered in multiples of, 1 to
@@ -45,6 +45,14 @@
 
    The Contract Date of a transfer stands in one of its two lines, anywhere, wholly within the line: {98A:CNTR/20230315} for 15 March 2023.
 
+   Days before 20230130 have the rules from before Clearing Memo 278. The book's day when a call comes chooses, and nothing else does:
+     - An empty tag, {98A:CNTR/}, stands for the book's day, whatever the tracking code is. From 20230130 on it is refused with 135.
+     - Fails are claimed for types 3 and 4 alone: each row whose Beneficiary Date is after the Contract Date, not after the book's day, and
+       not before the same day six months earlier, or the last day of that month where it is shorter (20220228 for 20220831). There is no
+       maximum number, and rows whose Payment Date is after the book's day are all claimed.
+     - The tracking codes of lending, 1 to 6, are refused with 15. What a book has on loan is claimed at its closes all the same.
+   Repos, interim claims, amounts, outcomes, release and all other numbers are those of later days.
+
    Buffers of claims: a transfer gives at most 16 claims, one for each row of its security, a close at most 122,880;
    CLAIM_TRACKER_CLAIM_ROOM(n) is the size for n. A call whose claims do not fit is refused with 10 and has changed nothing: call again with
    a larger buffer. claim_tracker_serve, and with it the program claimrun, has 64 KiB for the claims of each record: a close with more than
@@ -65,9 +73,9 @@
 #include <stdint.h>
 
 #define CLAIM_TRACKER_VERSION_MAJOR 2
-#define CLAIM_TRACKER_VERSION_MINOR 0
+#define CLAIM_TRACKER_VERSION_MINOR 1
 #define CLAIM_TRACKER_VERSION_PATCH 0
-#define CLAIM_TRACKER_VERSION "2.0.0"
+#define CLAIM_TRACKER_VERSION "2.1.0"
 
 /* Every function answers a number that a caller has to look at, and takes no null pointer; compilers that can, watch over both. */
 #if defined(__GNUC__)
@@ -126,7 +134,7 @@ enum {
 
 /* The number of a call. 0 is accepted. With any other the call is refused and leaves book, balances and buffers as they were. Where several
    apply, the one that stands first here is answered. An opening meets 1 to 4 alone, a reader 5, a writer 10; 12 is met only where limits
-   are lent, 13 and 14 only by a transfer, and by no record of a run. */
+   are lent, 13 to 15 only by a transfer, and 12 to 14 by no record of a run. */
 enum claim_tracker_number {
     CLAIM_TRACKER_ACCEPTED = 0,
     CLAIM_TRACKER_WRONG_LENGTH = 1,             /* calendar, tables or balances have another number of words */
@@ -141,12 +149,13 @@ enum claim_tracker_number {
                                                    a par of 0 or above 100,000,000, or the sender is the receiver */
     CLAIM_TRACKER_SEVERAL_TAGS = 132,           /* more than one {98A:CNTR/ in the two lines */
     CLAIM_TRACKER_UNENDED_TAG = 133,            /* no } behind it in its line */
-    CLAIM_TRACKER_TAG_WITHOUT_DATE = 135,       /* not eight digits that are a date */
+    CLAIM_TRACKER_TAG_WITHOUT_DATE = 135,       /* not eight digits that are a date; nor empty, where the book's day is before 20230130 */
     CLAIM_TRACKER_CONTRACT_DATE_AFTER_DAY = 138, /* the Contract Date is after the book's day */
     CLAIM_TRACKER_CONTRACT_DATE_NOT_DAY = 139,  /* class 1, and the Contract Date is not the book's day */
     CLAIM_TRACKER_COUNT_FULL = 11,              /* 4,294,967,295 transfers are accepted already */
     CLAIM_TRACKER_OFF_PIECE = 14,               /* the par is no multiple of the security's piece, and not exactly the whole balance on
                                                    loan, or on repo, that its code takes from */
+    CLAIM_TRACKER_LENDING_TOO_EARLY = 15,       /* a tracking code of lending, 1 to 6, and the book's day is before 20230130 */
     CLAIM_TRACKER_ABOVE_BALANCE = 7,            /* a decrease above what is on loan, or on repo, by its code */
     CLAIM_TRACKER_PAST_LIMIT = 8,               /* an increase past 9,000,000,000 on loan, or on repo, by its code */
     CLAIM_TRACKER_LAST_DAY = 9,                 /* a close, and no open day follows the day that it would go to */
@@ -169,7 +178,8 @@ enum claim_tracker_class {
 
 /* The tracking code of a transfer. A transfer without one may give interim claims and, where it has a Contract Date, fail claims. SLST,
    CLSR and ADSL add par to what the sender has lent the receiver; SLRV, CLSL and ADSR take par from what the receiver has lent the
-   sender. Codes 7 to 12 do the same on repo; par on loan and par on repo stand apart. */
+   sender. These six are taken from 20230130 on. Codes 7 to 12 do the same on repo, on every day. Par on loan and par on repo stand
+   apart. */
 enum claim_tracker_code {
     CLAIM_TRACKER_CODE_NONE = 0,
     CLAIM_TRACKER_CODE_SLST = 1,                /* a loan's start */
@@ -187,9 +197,9 @@ enum claim_tracker_code {
 };
 
 /* The type of a claim. In an MBS (types 3 and 4) a fail claims, of its rows whose Payment Date is after the book's day, the first alone;
-   those whose Payment Date is not after it are all claimed. A transfer without a tracking code in an MBS, with a Contract Date or without,
-   gives an interim claim for each row whose Record Date is not after the book's day and whose Beneficiary Date is; amounts and release
-   are those of a fail. */
+   those whose Payment Date is not after it are all claimed. On days before 20230130 a fail claims by the older rules above. A transfer
+   without a tracking code in an MBS, with a Contract Date or without, gives an interim claim for each row whose Record Date is not after
+   the book's day and whose Beneficiary Date is; amounts and release are those of a fail. */
 enum claim_tracker_claim_type {
     CLAIM_TRACKER_CLAIM_TYPE_FAIL = 1,
     CLAIM_TRACKER_CLAIM_TYPE_INTERIM = 2,
@@ -264,6 +274,8 @@ static inline const char *claim_tracker_text(unsigned int number) {
         return "the pieces have a wrong length or a number outside 1 to 1,000,000";
     case CLAIM_TRACKER_OFF_PIECE:
         return "the par is no multiple of the security's piece and does not clear the whole balance";
+    case CLAIM_TRACKER_LENDING_TOO_EARLY:
+        return "a tracking code of lending on a day before 20230130";
     case CLAIM_TRACKER_SEVERAL_TAGS:
         return "more than one Contract Date tag opens";
     case CLAIM_TRACKER_UNENDED_TAG:
@@ -374,8 +386,8 @@ struct claim_tracker_done claim_tracker_transfer(const uint32_t *calendar, size_
                                                  const uint8_t *message, size_t message_bytes, uint8_t *claims, size_t claim_bytes);
 
 /* Works a transfer as claim_tracker_transfer does, with limits of the caller's in place of the published numbers. They are judged whatever
-   the tracking code is. Refused: the number, the book given, no claims, and balances and claim buffer as they were. On 7, 6, 3, 2, 1 both
-   forms give and leave the same. */
+   the tracking code and the day are. Refused: the number, the book given, no claims, and balances and claim buffer as they were. On 7, 6,
+   3, 2, 1, and on a day before 20230130 with any good limits, both forms give and leave the same. */
 CLAIM_TRACKER_CALL CLAIM_TRACKER_NONNULL
 struct claim_tracker_done claim_tracker_transfer_with_limits(const uint32_t *calendar, size_t calendar_words, const uint32_t *tables,
                                                              size_t table_words, const uint32_t *limits, size_t limit_words,

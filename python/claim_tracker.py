@@ -15,7 +15,7 @@ from dataclasses import dataclass
 from enum import IntEnum
 from typing import NamedTuple
 
-__version__ = "2.0.0"
+__version__ = "2.1.0"
 
 ACCOUNTS = 16
 SECURITIES = 16
@@ -58,6 +58,7 @@ class Number(IntEnum):
     CONTRACT_DATE_NOT_DAY = 139
     COUNT_FULL = 11
     OFF_PIECE = 14
+    LENDING_TOO_EARLY = 15
     ABOVE_BALANCE = 7
     PAST_LIMIT = 8
     LAST_DAY = 9
@@ -79,7 +80,7 @@ class Class(IntEnum):
 
 
 class Code(IntEnum):
-    """The tracking code of a transfer."""
+    """The tracking code of a transfer. Those of lending, 1 to 6, are taken from 20230130 on."""
     NONE = 0
     SLST = 1
     SLRV = 2
@@ -152,6 +153,7 @@ _TEXTS = {
     Number.BAD_LIMITS: "the date limits have a wrong length or break a rule",
     Number.BAD_PIECES: "the pieces have a wrong length or a number outside 1 to 1,000,000",
     Number.OFF_PIECE: "the par is no multiple of the security's piece and does not clear the whole balance",
+    Number.LENDING_TOO_EARLY: "a tracking code of lending on a day before 20230130",
     Number.SEVERAL_TAGS: "more than one Contract Date tag opens",
     Number.UNENDED_TAG: "a Contract Date tag without } in its line",
     Number.TAG_WITHOUT_DATE: "the Contract Date tag holds no date",
@@ -457,13 +459,13 @@ def _on_own_book(name, words, book, *arguments):
 
 def transfer(calendar, tables, book, balances, message, claims, *, pieces=_ONES):
     """Works a transfer: posts its par and writes its fail and interim claims from the start of claims. The book given is not changed. The
-    pieces are those of the 16 securities, and ones where none are given."""
+    pieces are those of the 16 securities, and ones where none are given. A book's day before 20230130 has older rules."""
     return _by_value("transfer", {"calendar": calendar, "tables": tables, "pieces": pieces}, book, balances, message, claims)
 
 
 def transfer_with_limits(calendar, tables, limits, book, balances, message, claims, *, pieces=_ONES):
     """Works a transfer with other maximum numbers of Beneficiary Dates than the published 7, 6, 3, 2, 1: those of MBS, then of monthly,
-    quarterly, semiannual and annual securities. Without pieces, ones."""
+    quarterly, semiannual and annual securities. On a book's day before 20230130 they are judged and not used. Without pieces, ones."""
     words = {"calendar": calendar, "tables": tables, "limits": limits, "pieces": pieces}
     return _by_value("transfer_with_limits", words, book, balances, message, claims)
 

@@ -2,7 +2,7 @@
 use crate::inputs::{self, World};
 use crate::random::Random;
 use crate::tracker;
-use bench::rules::{self, Book, ONES, RECORD_ROOM, TRACKING_WORDS};
+use bench::rules::{self, Book, ONES, PUBLISHED, RECORD_ROOM, TRACKING_WORDS};
 use std::collections::BTreeMap;
 use std::fmt::Debug;
 use std::ops::RangeInclusive;
@@ -24,6 +24,19 @@ const CLEARED: &str = "off piece, cleared";
 const ONE_BESIDE: &str = "off piece, one beside";
 const OTHER_HALF: &str = "off piece, other half";
 const AN_INCREASE: &str = "off piece, an increase";
+const EMPTY_TAG: &str = "empty tag";
+const EMPTY_BEFORE: &str = "before, empty tag";
+const EMPTY_OTHER: &str = "before, empty, class 1";
+const LENDING_BEFORE: &str = "before, lending";
+const REPO_BEFORE: &str = "before, repo";
+const FAIL_BEFORE: &str = "before, fail claims";
+const NOT_MBS_BEFORE: &str = "before, rows, no MBS";
+const TOO_OLD: &str = "before, rows too old";
+const ON_THE_EDGE: &str = "before, on the edge";
+const SHORT_MONTH: &str = "before, short month";
+const PAST_LIMIT: &str = "before, past a limit";
+const LATER_WAITING: &str = "before, later waiting";
+const CROSSED: &str = "into the memo's day";
 
 /// How often each kind of input got each number.
 type Tally = BTreeMap<(&'static str, u16), u64>;
@@ -66,6 +79,66 @@ fn count_claims(claims: &[u8], tally: &mut Tally) {
             _ => REPO_CLAIM,
         };
         *tally.entry((name, claim[5] as u16)).or_default() += 1;
+    }
+}
+
+/// What the Contract Date tag of a transfer holds, where there is one.
+fn tag_of(message: &[u8]) -> Option<&[u8]> {
+    const OPENER: &[u8] = b"{98A:CNTR/";
+    message.get(13..141)?.chunks(64).find_map(|line| {
+        let at = line.windows(OPENER.len()).position(|part| part == OPENER)? + OPENER.len();
+        let end = line[at..].iter().position(|&byte| byte == b'}')?;
+        Some(&line[at..at + end])
+    })
+}
+
+/// Counts a transfer with an empty tag by its number, on days before the memo and on later ones apart, and accepted ones of class 1.
+fn count_empty_tag(day: u32, message: &[u8], number: u16, tally: &mut Tally) {
+    if !matches!(tag_of(message), Some([])) {
+        return;
+    }
+    let is_before = rules::is_before_memo(day);
+    *tally.entry((if is_before { EMPTY_BEFORE } else { EMPTY_TAG }, number)).or_default() += 1;
+    if is_before && number == 0 && message[7] == 1 {
+        *tally.entry((EMPTY_OTHER, 0)).or_default() += 1;
+    }
+}
+
+/// Counts a failed transfer on a day before the memo: by its claims, by the rows behind the Contract Date that are too old for it, that lie
+/// on the edge of the half year, there since a month is short, or are more than its limit, by those that wait behind another that waits,
+/// and by the rows that a security which is no MBS has.
+fn count_fail_before(tables: &[u32], limit: u32, day: u32, message: &[u8], claims: &[u8], tally: &mut Tally) {
+    let Some(contract) = tag_of(message).and_then(|held| std::str::from_utf8(held).ok()?.parse().ok()) else { return };
+    let security = &tables[114 * message[6] as usize..][..114];
+    let rows: Vec<&[u32]> = security[2..].chunks(7).filter(|row| row[1] > contract && row[1] <= day).collect();
+    if !matches!(security[0], 3 | 4) {
+        *tally.entry((NOT_MBS_BEFORE, rows.len() as u16)).or_default() += 1;
+        return;
+    }
+    let edge = rules::six_months_before(day);
+    let fails = claims.chunks_exact(CLAIM_BYTES).filter(|claim| claim[4] == FAIL).count();
+    let on_edge = rows.iter().any(|row| row[1] == edge);
+    let claimed = rows.iter().filter(|row| row[1] >= edge);
+    let waiting = claimed.filter(|row| row[2] > day).count();
+    for (name, count) in [
+        (FAIL_BEFORE, fails),
+        (TOO_OLD, rows.len() - fails),
+        (ON_THE_EDGE, on_edge as usize),
+        (SHORT_MONTH, (on_edge && edge % 100 < day % 100) as usize),
+        (PAST_LIMIT, fails.saturating_sub(limit as usize)),
+        (LATER_WAITING, waiting.saturating_sub(1)),
+    ] {
+        *tally.entry((name, count as u16)).or_default() += 1;
+    }
+}
+
+/// Counts a transfer with a tracking code on a day before the memo: those of lending by their codes where they get 15, those of repo by
+/// their numbers.
+fn count_code_before(message: &[u8], number: u16, tally: &mut Tally) {
+    match message.get(8) {
+        Some(&code @ 1..=6) if number == 15 => *tally.entry((LENDING_BEFORE, code as u16)).or_default() += 1,
+        Some(7..=12) => *tally.entry((REPO_BEFORE, number)).or_default() += 1,
+        _ => {}
     }
 }
 
@@ -138,6 +211,9 @@ fn compare_calls(random: &mut Random, tally: &mut Tally) -> Result<(), String> {
         if !closing && !random.one_in(8) {
             inputs::fit_par(random, &mut message, &pieces, &ours);
         }
+        if !closing && random.one_in(3) {
+            inputs::fit_fail(random, &mut message, &world.tables, book.day);
+        }
         let mut our_claims = inputs::buffer(random);
         let mut their_claims = our_claims.clone();
         let World { calendar, tables, .. } = &world;
@@ -162,16 +238,32 @@ fn compare_calls(random: &mut Random, tally: &mut Tally) -> Result<(), String> {
         same_parts("the claim buffer", &our_claims, &their_claims)?;
         let claims = &our_claims[..CLAIM_BYTES * library.claims];
         count_claims(claims, tally);
-        count_waiting(tables, book.day, claims, tally);
+        let is_before = rules::is_before_memo(book.day);
+        if !is_before {
+            count_waiting(tables, book.day, claims, tally);
+        }
         if closing {
             count_rows_of_both(claims, tally);
+            let crosses = is_before && !rules::is_before_memo(library.book.day);
+            *tally.entry((CROSSED, crosses as u16)).or_default() += 1;
         } else if let Some(7..=12) = message.get(8) {
             *tally.entry((REPO_TRANSFER, library.number)).or_default() += 1;
         }
         if !closing && matches!(library.number, 0 | 14) {
             count_off_piece(&pieces, &ours, &message, library.number, tally);
         }
-        if name == WITH_LIMITS && library.number == 0 && message[8] == 0 {
+        if !closing {
+            count_empty_tag(book.day, &message, library.number, tally);
+        }
+        if !closing && is_before {
+            count_code_before(&message, library.number, tally);
+        }
+        let is_plain = !closing && library.number == 0 && message[8] == 0;
+        if is_plain && is_before {
+            let limit = limits.as_ref().map_or(PUBLISHED[0], |limits| limits[0]);
+            count_fail_before(tables, limit, book.day, &message, claims, tally);
+        }
+        if is_plain && !is_before && name == WITH_LIMITS {
             count_by_limits(&world, book, &mut theirs, &message, library.claims, tally);
         }
         book = library.book;
@@ -225,7 +317,9 @@ fn compare_serve(random: &mut Random, tally: &mut Tally) -> Result<(), String> {
 /// What a comparison of many inputs has to meet: a failed transfer that drops a row, one that claims a paid row behind one that waits, a repo
 /// claim, a row with claims of both types, a repo refused by its balance and by the limit, limits refused, limits that give more claims
 /// and fewer than the published numbers, pieces refused, and par off the piece: refused, accepted on loan and on repo since it clears the
-/// balance, and refused for what is nearly that.
+/// balance, and refused for what is nearly that. Of days before the memo: lending refused by each of its codes and repo accepted; an empty
+/// tag accepted, of class 1 too, and refused on a later day; a fail with more claims than its limit, also where several wait, one with a
+/// row on the edge of the half year, there since a month is short too, and one before it; a fail in no MBS; and a close into a later day.
 fn judge(tally: &Tally, count: u64) -> Result<(), String> {
     const MANY: u64 = 10_000;
     const SOME: RangeInclusive<u16> = 1..=u16::MAX;
@@ -248,6 +342,27 @@ fn judge(tally: &Tally, count: u64) -> Result<(), String> {
         (ONE_BESIDE, SOME),
         (OTHER_HALF, SOME),
         (AN_INCREASE, SOME),
+        (TRANSFER, 15..=15),
+        (WITH_LIMITS, 15..=15),
+        (LENDING_BEFORE, 1..=1),
+        (LENDING_BEFORE, 2..=2),
+        (LENDING_BEFORE, 3..=3),
+        (LENDING_BEFORE, 4..=4),
+        (LENDING_BEFORE, 5..=5),
+        (LENDING_BEFORE, 6..=6),
+        (REPO_BEFORE, 0..=0),
+        (REPO_BEFORE, 7..=7),
+        (EMPTY_TAG, 135..=135),
+        (EMPTY_BEFORE, 0..=0),
+        (EMPTY_OTHER, 0..=0),
+        (FAIL_BEFORE, 8..=16),
+        (NOT_MBS_BEFORE, SOME),
+        (TOO_OLD, SOME),
+        (ON_THE_EDGE, SOME),
+        (SHORT_MONTH, SOME),
+        (PAST_LIMIT, SOME),
+        (LATER_WAITING, SOME),
+        (CROSSED, SOME),
     ];
     let is_met =
         |(name, numbers): &(&str, RangeInclusive<u16>)| tally.keys().any(|(kind, n)| kind == name && numbers.contains(n));

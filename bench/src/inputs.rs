@@ -1,6 +1,7 @@
 //! Inputs: calendars, tables, limits, pieces, balances and messages, sound and damaged.
 use crate::random::Random;
 use bench::rules::{Book, CALENDAR_WORDS, LIMIT_WORDS, PIECE_WORDS, PUBLISHED, TABLE_WORDS, TRACKING_WORDS};
+use std::ops::Range;
 
 pub const MOST_LENT: u64 = 9_000_000_000;
 const MOST_PAR: u64 = 100_000_000;
@@ -32,8 +33,23 @@ pub fn date(mut day: u64) -> u32 {
     20391231
 }
 
+/// The day on which a month begins, counted likewise; months are counted from January 2000.
+fn first_of(month: usize) -> u64 {
+    (0..month).map(|month| month_length(month) as u64).sum()
+}
+
+/// The day of a date, counted likewise; of a number whose month or year is none, the day of one that is.
+fn day_of(date: u32) -> u64 {
+    let (year, month, day) = (date / 10000 % 40, date / 100 % 100 % 12, date % 100);
+    first_of((12 * year + (month + 11) % 12) as usize) + (day as u64).saturating_sub(1)
+}
+
 /// The days from 1 January 2000 to 31 December 2039.
 pub const DAYS: u64 = 14610;
+
+/// The first day on which the rows of some tables may begin: the rules are those of Memo 219 on most days of the first, those of Memo 278
+/// on the days of the last, and the second lies around the change.
+const BEGINNINGS: [u64; 5] = [6900, 6900, 7700, 8600, 8600];
 
 /// Monday to Friday.
 pub fn weekdays() -> Vec<u32> {
@@ -87,8 +103,15 @@ fn open_dates(calendar: &[u32]) -> Vec<u32> {
     open
 }
 
-/// A day of the book, mostly open and in the middle of the years that the rows cover.
-fn day(random: &mut Random, open: &[u32]) -> u32 {
+/// One of the open days within a range of dates, or any open day where there is none.
+fn open_within(random: &mut Random, open: &[u32], dates: Range<u32>) -> u32 {
+    let within: Vec<u32> = open.iter().copied().filter(|day| dates.contains(day)).collect();
+    if within.is_empty() { random.pick(open) } else { random.pick(&within) }
+}
+
+/// A day of the book, mostly open and in the middle of the years that the rows cover; some are just before the rules change, on 30 January
+/// 2023, or on it.
+fn day(random: &mut Random, open: &[u32], beginning: u64) -> u32 {
     match random.below(40) {
         _ if open.is_empty() => date(random.below(DAYS)),
         0 => date(random.below(DAYS)),
@@ -96,10 +119,8 @@ fn day(random: &mut Random, open: &[u32]) -> u32 {
         2 => open[open.len() - 1 - random.below(3.min(open.len() as u64)) as usize],
         3 => open[0],
         4..8 => random.pick(open),
-        _ => {
-            let middle: Vec<u32> = open.iter().copied().filter(|day| (20200101..20230101).contains(day)).collect();
-            if middle.is_empty() { random.pick(open) } else { random.pick(&middle) }
-        }
+        8..12 => open_within(random, open, 20230116..20230203),
+        _ => open_within(random, open, date(beginning + 300)..date(beginning + 1100)),
     }
 }
 
@@ -121,14 +142,34 @@ fn mask(random: &mut Random) -> u32 {
     }
 }
 
-/// Rows that keep the rules where the calendar's last open day is late enough; their Beneficiary Dates lie a few days or weeks behind their
-/// Record Dates, and their Payment Dates, in any order, some weeks or a year behind both.
-fn rows(random: &mut Random, count: usize, words: &mut [u32], step: u64) {
-    let mut record = random.from(6900, 7400);
+/// The Record and Beneficiary Dates of rows, as days. The latter lie a few days or weeks behind the former.
+fn rising_days(random: &mut Random, beginning: u64) -> [[u64; 2]; 16] {
+    let step = random.pick(&[1, 3, 30, 60, 90]);
     let lag = random.pick(&[5, 60]);
+    let record = random.from(beginning, beginning + 500);
+    let mut days = [record, record + random.below(lag)];
+    [(); 16].map(|()| {
+        let row = days;
+        days = days.map(|day| day + random.from(1, step));
+        row
+    })
+}
+
+/// Likewise, on the last days of months that follow each other, or on the first days behind them.
+fn monthly_days(random: &mut Random, beginning: u64) -> [[u64; 2]; 16] {
+    let ends = random.pick(&[0, 1, 1]);
+    let month = (random.from(beginning, beginning + 500) / 31) as usize;
+    let lag = random.pick(&[0, 0, 1]);
+    std::array::from_fn(|row| [month + row, month + row + lag].map(|month| first_of(month) - ends))
+}
+
+/// Rows that keep the rules where the calendar's last open day is late enough. Their Payment Dates, in any order, lie some weeks or a year
+/// behind their other dates.
+fn rows(random: &mut Random, count: usize, words: &mut [u32], beginning: u64) {
+    let is_monthly = random.one_in(2);
+    let days = if is_monthly { monthly_days(random, beginning) } else { rising_days(random, beginning) };
     let delay = random.pick(&[40, 400]);
-    let mut beneficiary = record + random.below(lag);
-    for row in words.chunks_mut(7).take(count) {
+    for (row, [record, beneficiary]) in words.chunks_mut(7).zip(days).take(count) {
         let payment = record.max(beneficiary) + random.below(delay);
         let last = random.one_in(6) as u32;
         row.copy_from_slice(&[
@@ -140,12 +181,10 @@ fn rows(random: &mut Random, count: usize, words: &mut [u32], step: u64) {
             last,
             mask(random),
         ]);
-        record += random.from(1, step);
-        beneficiary += random.from(1, step);
     }
 }
 
-fn tables(random: &mut Random) -> Vec<u32> {
+fn tables(random: &mut Random, beginning: u64) -> Vec<u32> {
     let mut words = vec![0; TABLE_WORDS];
     let unused = random.pick(&[0, 0, 0, 1, 2, 2, 8, 16]);
     for security in words.chunks_mut(114) {
@@ -155,8 +194,7 @@ fn tables(random: &mut Random) -> Vec<u32> {
         security[0] = random.from(1, 4) as u32;
         security[1] = random.from(1, 4) as u32;
         let count = if random.one_in(2) { 16 } else { random.below(17) as usize };
-        let step = random.pick(&[1, 3, 30, 60, 90]);
-        rows(random, count, &mut security[2..], step);
+        rows(random, count, &mut security[2..], beginning);
     }
     words
 }
@@ -280,22 +318,32 @@ fn damage(random: &mut Random, world: &mut World) {
     }
 }
 
-/// An open day beside a Record, Beneficiary or Payment Date of some row.
+/// The number of the same day six months behind a date; in some months there is no such day.
+fn six_months_behind(date: u32) -> u32 {
+    if date / 100 % 100 > 6 { date.wrapping_add(9400) } else { date.wrapping_add(600) }
+}
+
+/// An open day beside a Record, Beneficiary or Payment Date of some row, or beside the day six months behind its Beneficiary Date or the end
+/// of that month.
 fn day_by_row(random: &mut Random, open: &[u32], tables: &[u32]) -> Option<u32> {
     let security = tables.chunks(114).nth(random.below(16) as usize)?;
-    let row = security[2..].chunks(7).nth(random.below(16) as usize)?;
-    let near = open.partition_point(|&day| day < row[random.below(3) as usize]);
-    let at = (near + random.below(5) as usize).checked_sub(2)?;
+    let row = security[2..].chunks(7).nth(random.below(16) as usize).filter(|row| row[1] != 0)?;
+    let behind = six_months_behind(row[1]);
+    let end = behind - behind % 100 + 31;
+    let date = random.pick(&[row[0], row[1], row[2], behind, behind, end, end]);
+    let near = open.partition_point(|&day| day < date);
+    let at = (near + random.pick(&[0, 1, 2, 2, 3, 3, 4])).checked_sub(2)?;
     open.get(at).copied()
 }
 
 /// A calendar, tables, balances and a book; about one in four is damaged.
 pub fn world(random: &mut Random) -> World {
     let calendar = calendar(random);
-    let tables = tables(random);
+    let beginning = random.pick(&BEGINNINGS);
+    let tables = tables(random, beginning);
     let open = open_dates(&calendar);
     let by_row = if random.one_in(2) { day_by_row(random, &open, &tables) } else { None };
-    let day = by_row.unwrap_or_else(|| day(random, &open));
+    let day = by_row.unwrap_or_else(|| day(random, &open, beginning));
     let count = match random.below(8) {
         0 => u32::MAX - random.below(3) as u32,
         1 => random.word() as u32,
@@ -348,6 +396,16 @@ pub fn pieces(random: &mut Random) -> Vec<u32> {
 
 const OPENER: &[u8] = b"{98A:CNTR/";
 
+/// A date some days or years before the day, or about half a year.
+fn earlier(random: &mut Random, day: u32) -> u32 {
+    let days = match random.below(4) {
+        0 => random.below(40),
+        1 => random.from(178, 188),
+        _ => random.below(1200),
+    };
+    date(day_of(day).saturating_sub(days))
+}
+
 /// A Contract Date, mostly not after the day.
 fn contract(random: &mut Random, day: u32) -> u32 {
     match random.below(12) {
@@ -356,7 +414,7 @@ fn contract(random: &mut Random, day: u32) -> u32 {
         3 => other(random, day),
         4 => random.below(100_000_000) as u32,
         5 => day.wrapping_sub(1),
-        _ => date(random.from(6800, 8400)),
+        _ => earlier(random, day),
     }
 }
 
@@ -373,6 +431,7 @@ fn tag(random: &mut Random, day: u32) -> Vec<u8> {
             bytes[at] = random.pick(b"/:}{ ");
         }
         4 => {}
+        5 => bytes.push(random.pick(b" 0}")),
         _ => bytes.extend(format!("{:08}", contract(random, day)).bytes()),
     }
     if !random.one_in(16) {
@@ -385,11 +444,12 @@ fn tag(random: &mut Random, day: u32) -> Vec<u8> {
     bytes
 }
 
-/// Both lines of free text with one good tag in one of them.
+/// Both lines of free text with one tag in one of them: with a date up to the day, or empty.
 fn lines_with_tag(random: &mut Random, day: u32) -> Vec<u8> {
     let mut text = vec![random.pick(b" }x0"); 128];
-    let date = if random.one_in(4) { day } else { date(random.from(6800, 8000)).min(day) };
-    let tag = format!("{{98A:CNTR/{date:08}}}");
+    let date = if random.one_in(4) { day } else { earlier(random, day).min(day) };
+    let date = if random.one_in(8) { String::new() } else { format!("{date:08}") };
+    let tag = format!("{{98A:CNTR/{date}}}");
     let at = (64 * random.below(2) + random.from(0, 64 - tag.len() as u64)) as usize;
     text[at..at + tag.len()].copy_from_slice(tag.as_bytes());
     text
@@ -431,7 +491,7 @@ pub fn transfer(random: &mut Random, day: u32) -> Vec<u8> {
         (sender + random.from(1, 15) as u8) % 16,
         random.below(16) as u8,
         random.below(2) as u8,
-        random.pick(&[0, 0, 0, 0, 0, 0, 1, 2, 3, 4, 5, 6, 7, 8, 9, 10, 11, 12]),
+        if random.one_in(2) { 0 } else { random.from(1, 12) as u8 },
     ];
     if !random.one_in(4) {
         fields[3] = 0;
@@ -489,6 +549,43 @@ pub fn fit_par(random: &mut Random, message: &mut [u8], pieces: &[u32], balances
         None => return,
     };
     [*p0, *p1, *p2, *p3] = (par as u32).to_le_bytes();
+}
+
+/// Whether a Beneficiary Date is the earliest that a fail reaches on a day before the memo: no other date up to the same day six months
+/// earlier is later.
+fn is_on_edge(beneficiary: u32, day: u32) -> bool {
+    let next = date(day_of(beneficiary) + 1);
+    (six_months_behind(beneficiary)..six_months_behind(next)).contains(&day)
+}
+
+/// Makes a transfer one without a tracking code in a security that has a Beneficiary Date up to the day, often one on the edge of the half
+/// year, and gives it a Contract Date beside such a date or long before.
+pub fn fit_fail(random: &mut Random, message: &mut [u8], tables: &[u32], day: u32) {
+    let reached = |words: &[u32]| -> Vec<u32> {
+        let dates = words.get(2..).unwrap_or(&[]).chunks_exact(7).map(|row| row[1]);
+        dates.filter(|&beneficiary| beneficiary != 0 && beneficiary <= day).collect()
+    };
+    let has_edge = |dates: &[u32]| dates.iter().any(|&beneficiary| is_on_edge(beneficiary, day));
+    let mut securities: Vec<(usize, Vec<u32>)> = tables.chunks(114).map(reached).enumerate().collect();
+    securities.retain(|(_, dates)| !dates.is_empty());
+    if !random.one_in(3) && securities.iter().any(|(_, dates)| has_edge(dates)) {
+        securities.retain(|(_, dates)| has_edge(dates));
+    }
+    let Some([_, _, security, class, code, _, _, _, _, lines @ ..]) = message.get_mut(4..141) else {
+        return;
+    };
+    if securities.is_empty() {
+        return;
+    }
+    let (number, dates) = &securities[random.place(&securities)];
+    [*security, *class, *code] = [*number as u8, 0, 0];
+    let contract = match random.below(3) {
+        0 => random.pick(dates).wrapping_sub(random.below(2) as u32),
+        1 => earlier(random, day),
+        _ => date(day_of(dates[0]).saturating_sub(random.below(400))),
+    };
+    lines.fill(b' ');
+    lines[..19].copy_from_slice(format!("{{98A:CNTR/{:08}}}", contract % 100_000_000).as_bytes());
 }
 
 /// Damages a message: its header, its length or any byte.

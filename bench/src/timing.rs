@@ -68,8 +68,8 @@ fn line(name: &str, times: &Times) {
     );
 }
 
-/// A full book: 16 securities of all types, 16 rows each, monthly from July 2021, and all balances but those with itself above zero. The
-/// Record Date of security s is day s + 1 of the month.
+/// A full book: 16 securities of all types, 16 rows each, monthly from July 2032, and all balances but those with itself above zero. The
+/// Record Date of security s is day s + 1 of the month. On its days the rules are those from 30 January 2023 on.
 fn full_book(day: u32) -> World {
     let mut random = Random::new(7);
     let mut tables = vec![0; TABLE_WORDS];
@@ -78,7 +78,7 @@ fn full_book(day: u32) -> World {
         security[1] = number as u32 / 4 + 1;
         for (row, words) in security[2..].chunks_mut(7).enumerate() {
             let month = 6 + row as u32;
-            let first = 10000 * (2021 + month / 12) + 100 * (month % 12 + 1);
+            let first = 10000 * (2032 + month / 12) + 100 * (month % 12 + 1);
             let record = first + number as u32 + 1;
             words.copy_from_slice(&[
                 record,
@@ -160,7 +160,7 @@ fn stream() -> Vec<u8> {
         let par = random.from(1, 20_000_000) as u32;
         let (code, text) = match random.below(10) {
             0..5 => {
-                let contract = inputs::date(random.from(7852, 8030));
+                let contract = inputs::date(random.from(11870, 12048));
                 let blank = " ".repeat(random.below(40) as usize);
                 (0, format!("{blank}{{98A:CNTR/{contract}}}"))
             }
@@ -180,7 +180,7 @@ fn stream() -> Vec<u8> {
 
 /// The book that the stream is worked on, just opened.
 fn opened_book() -> World {
-    let mut world = full_book(20220103);
+    let mut world = full_book(20330103);
     world.balances.fill(0);
     world.book.count = 0;
     world
@@ -269,21 +269,21 @@ fn time_processes(claimrun: &Path, world: &World, stream: &[u8], written: &[u8])
 pub fn run(claimrun: Option<PathBuf>) -> Result<(), String> {
     println!("{ROUNDS} rounds, {PROCESS_ROUNDS} of the processes, the two implementations in turn");
     heading();
-    let tag = "{98A:CNTR/20220301}";
+    let tag = "{98A:CNTR/20330301}";
     let fails: Vec<_> = (0..16).map(|number| transfer_message([1, 2], number, 0, 200_000, tag)).collect();
-    time_call("transfer, a fail", 20220801, LIBRARY_TRANSFER, RUST_TRANSFER, &fails)?;
+    time_call("transfer, a fail", 20330801, LIBRARY_TRANSFER, RUST_TRANSFER, &fails)?;
     let loans: Vec<_> =
         (0..16).flat_map(|number| [(1, [3, 4]), (3, [4, 3])].map(|(code, parties)| (number, code, parties))).collect();
     let loans: Vec<_> =
         loans.into_iter().map(|(number, code, parties)| transfer_message(parties, number, code, 100, "")).collect();
-    time_call("transfer, a loan", 20220801, LIBRARY_TRANSFER, RUST_TRANSFER, &loans)?;
-    let mut unsound = full_book(20220801);
+    time_call("transfer, a loan", 20330801, LIBRARY_TRANSFER, RUST_TRANSFER, &loans)?;
+    let mut unsound = full_book(20330801);
     unsound.calendar[479] |= 1 << 31;
     time_answer("transfer, calendar refused", &unsound, 2, LIBRARY_TRANSFER, RUST_TRANSFER, &loans)?;
     let close = [vec![2, 0, 2, 0]];
-    time_call("close that crosses nothing", 20220822, tracker::close, rules::close, &close)?;
-    time_call("close that crosses 1 row", 20220801, tracker::close, rules::close, &close)?;
-    time_call("close that crosses 3 rows", 20220805, tracker::close, rules::close, &close)?;
+    time_call("close that crosses nothing", 20330822, tracker::close, rules::close, &close)?;
+    time_call("close that crosses 1 row", 20330801, tracker::close, rules::close, &close)?;
+    time_call("close that crosses 3 rows", 20330805, tracker::close, rules::close, &close)?;
     let (world, stream) = (opened_book(), stream());
     let written = time_serve(&world, &stream)?;
     match claimrun.filter(|path| path.exists()) {

@@ -1,7 +1,7 @@
 /* Replays document 01's hex example through the exported functions: the book opened on 20230404 with the cases' tables, the first
    case's transfer from account 1 to 2, and all bytes that come out. Then the codecs both ways, two payments that wait for their Payment
-   Dates, an interim claim, a close, refusals, both calls on the caller's own book, a repo beside a loan, date limits, half a book, and
-   minimum pieces. */
+   Dates, an interim claim, a close, refusals, both calls on the caller's own book, a repo beside a loan, date limits, half a book,
+   minimum pieces, and days before 20230130. */
 #include <stdio.h>
 #include <string.h>
 
@@ -113,16 +113,17 @@ static const struct {
     {"a loan's return of a repo's balance", {2, 1, 0, 0, CLAIM_TRACKER_CODE_CLSL, 30500}, 14},
 };
 
-/* A transfer in one of its three forms, with room for a claim. */
-static struct claim_tracker_done by_form(int form, const uint32_t *pieces, size_t piece_words, const uint8_t *message, uint8_t *claims) {
-    struct claim_tracker_book book = {20230404, 0};
+/* A transfer in one of its three forms. */
+static struct claim_tracker_done by_form(int form, struct claim_tracker_book book, const uint32_t *pieces, size_t piece_words,
+                                         const uint8_t *message, uint8_t *claims, size_t claim_bytes) {
     if (form == 0)
-        return claim_tracker_transfer(calendar, 480, tables, 1824, pieces, piece_words, book, balances, WORDS, message, 141, claims, 35);
+        return claim_tracker_transfer(calendar, 480, tables, 1824, pieces, piece_words, book, balances, WORDS, message, 141, claims,
+                                      claim_bytes);
     if (form == 1)
         return claim_tracker_transfer_with_limits(calendar, 480, tables, 1824, published, 5, pieces, piece_words, book, balances, WORDS,
-                                                  message, 141, claims, 35);
-    struct claim_tracker_reply reply =
-        claim_tracker_transfer_in(calendar, 480, tables, 1824, pieces, piece_words, &book, balances, WORDS, message, 141, claims, 35);
+                                                  message, 141, claims, claim_bytes);
+    struct claim_tracker_reply reply = claim_tracker_transfer_in(calendar, 480, tables, 1824, pieces, piece_words, &book, balances, WORDS,
+                                                                 message, 141, claims, claim_bytes);
     return (struct claim_tracker_done){reply.number, book, reply.claims};
 }
 
@@ -140,7 +141,8 @@ static void check_pieces(const char *name, const uint32_t *pieces, size_t piece_
     for (int form = 0; form < 3; form++) {
         memcpy(balances, before, sizeof before);
         memcpy(claims, untouched, sizeof claims);
-        struct claim_tracker_done done = by_form(form, pieces, piece_words, message, claims);
+        struct claim_tracker_done done =
+            by_form(form, (struct claim_tracker_book){20230404, 0}, pieces, piece_words, message, claims, sizeof claims);
         check(name, done.number == number && done.book.day == 20230404 && done.book.count == (number == 0));
         if (number != 0)
             check(name, done.claims == 0 && memcmp(claims, untouched, sizeof claims) == 0 && memcmp(balances, before, sizeof before) == 0);
@@ -165,6 +167,145 @@ static void minimum_pieces(void) {
     }
     for (size_t i = 0; i < 16; i++) pieces[i] = 1000000;
     check_pieces("sixteen pieces of 1,000,000", pieces, 16, (struct claim_tracker_transfer_fields){1, 2, 0, 0, 0, 1000000}, 0);
+}
+
+/* The Beneficiary Dates of a pool: the day before that of six months before 20230127, that day, and ten more up to 20230127. */
+static const uint32_t half_year[12] = {20220726, 20220727, 20220801, 20220901, 20221001, 20221101,
+                                       20221201, 20230101, 20230110, 20230117, 20230126, 20230127};
+
+/* Security 0: an agency MBS with these dates, of which the first is paid and all others wait until 20230228. Security 1: a Treasury with
+   one that is paid. */
+static void half_year_tables(void) {
+    static const uint32_t note[9] = {1, 3, 20230115, 20230115, 20230116, 5000000, 0, 0, 0};
+    memset(tables, 0, sizeof tables);
+    tables[0] = CLAIM_TRACKER_SECURITY_AGENCY_MBS;
+    tables[1] = CLAIM_TRACKER_FREQUENCY_MONTHLY;
+    for (size_t r = 0; r < 12; r++) {
+        uint32_t *row = tables + 2 + CLAIM_TRACKER_ROW_WORDS * r;
+        row[0] = row[1] = half_year[r];
+        row[2] = r == 0 ? 20220801 : 20230228;
+        row[3] = 5000000;
+    }
+    memcpy(tables + CLAIM_TRACKER_SECURITY_WORDS, note, sizeof note);
+}
+
+/* Transfers on a day before the memo and on its first, where account 1 has lent account 2 40,500 of security 0 on loan. */
+static const struct {
+    const char *name;
+    uint32_t day;
+    const char *tag;
+    struct claim_tracker_transfer_fields fields;
+    uint16_t number;
+    size_t claims;
+} by_day[] = {
+    {"eleven rows within six months", 20230127, "{98A:CNTR/20220601}", {1, 2, 0, 0, CLAIM_TRACKER_CODE_NONE, 200000}, 0, 11},
+    {"the first that waits on the first day", 20230130, "{98A:CNTR/20220601}", {1, 2, 0, 0, CLAIM_TRACKER_CODE_NONE, 200000}, 0, 1},
+    {"ten behind the earliest", 20230127, "{98A:CNTR/20220727}", {1, 2, 0, 0, CLAIM_TRACKER_CODE_NONE, 200000}, 0, 10},
+    {"no fail of a Treasury", 20230127, "{98A:CNTR/20220601}", {1, 2, 1, 0, CLAIM_TRACKER_CODE_NONE, 200000}, 0, 0},
+    {"one on the first day", 20230130, "{98A:CNTR/20220601}", {1, 2, 1, 0, CLAIM_TRACKER_CODE_NONE, 200000}, 0, 1},
+    {"an empty tag", 20230127, "{98A:CNTR/}", {1, 2, 0, 0, CLAIM_TRACKER_CODE_NONE, 200000}, 0, 0},
+    {"an empty tag of class 1", 20230127, "{98A:CNTR/}", {1, 2, 0, 1, CLAIM_TRACKER_CODE_NONE, 200000}, 0, 0},
+    {"an empty tag of a repo", 20230127, "{98A:CNTR/}", {1, 2, 0, 0, CLAIM_TRACKER_CODE_RPST, 200000}, 0, 0},
+    {"an empty tag of a loan", 20230127, "{98A:CNTR/}", {1, 2, 0, 0, CLAIM_TRACKER_CODE_SLST, 200000}, 15, 0},
+    {"an empty tag on the first day", 20230130, "{98A:CNTR/}", {1, 2, 0, 0, CLAIM_TRACKER_CODE_NONE, 200000}, 135, 0},
+    {"an empty tag of class 1 on the first day", 20230130, "{98A:CNTR/}", {1, 2, 0, 1, CLAIM_TRACKER_CODE_NONE, 200000}, 135, 0},
+    {"an empty tag of a repo on the first day", 20230130, "{98A:CNTR/}", {1, 2, 0, 0, CLAIM_TRACKER_CODE_RPST, 200000}, 135, 0},
+    {"a blank in a tag", 20230127, "{98A:CNTR/ }", {1, 2, 0, 0, CLAIM_TRACKER_CODE_NONE, 200000}, 135, 0},
+    {"a blank in a loan's tag", 20230127, "{98A:CNTR/ }", {1, 2, 0, 0, CLAIM_TRACKER_CODE_SLST, 200000}, 135, 0},
+    {"a date before 2000", 20230127, "{98A:CNTR/19991231}", {1, 2, 0, 0, CLAIM_TRACKER_CODE_NONE, 200000}, 135, 0},
+    {"an empty tag twice", 20230127, "{98A:CNTR/}{98A:CNTR/}", {1, 2, 0, 0, CLAIM_TRACKER_CODE_NONE, 200000}, 132, 0},
+    {"a tag without an end", 20230127, "{98A:CNTR/", {1, 2, 0, 0, CLAIM_TRACKER_CODE_NONE, 200000}, 133, 0},
+    {"a loan's start", 20230127, "", {1, 2, 0, 0, CLAIM_TRACKER_CODE_SLST, 15000}, 15, 0},
+    {"a reversal of a start", 20230127, "", {2, 1, 0, 0, CLAIM_TRACKER_CODE_SLRV, 40500}, 15, 0},
+    {"a loan's return", 20230127, "", {2, 1, 0, 0, CLAIM_TRACKER_CODE_CLSL, 40500}, 15, 0},
+    {"a reversal of a return", 20230127, "", {1, 2, 0, 0, CLAIM_TRACKER_CODE_CLSR, 15000}, 15, 0},
+    {"the balance alone, up", 20230127, "", {1, 2, 0, 0, CLAIM_TRACKER_CODE_ADSL, 15000}, 15, 0},
+    {"the balance alone, down", 20230127, "", {2, 1, 0, 0, CLAIM_TRACKER_CODE_ADSR, 40500}, 15, 0},
+    {"a return above the balance", 20230127, "", {2, 1, 0, 0, CLAIM_TRACKER_CODE_CLSL, 40501}, 15, 0},
+    {"a repo's start", 20230127, "", {1, 2, 0, 0, CLAIM_TRACKER_CODE_RPST, 15000}, 0, 0},
+    {"a repo's close above the balance", 20230127, "", {2, 1, 0, 0, CLAIM_TRACKER_CODE_CLRP, 1}, 7, 0},
+    {"a loan's start on the first day", 20230130, "", {1, 2, 0, 0, CLAIM_TRACKER_CODE_SLST, 15000}, 0, 0},
+    {"a loan's return on the first day", 20230130, "", {2, 1, 0, 0, CLAIM_TRACKER_CODE_CLSL, 40500}, 0, 0},
+};
+
+static void write_tagged(uint8_t message[CLAIM_TRACKER_TRANSFER_BYTES], struct claim_tracker_transfer_fields fields, const char *tag) {
+    uint8_t lines[2][CLAIM_TRACKER_LINE_BYTES];
+    memset(lines, ' ', sizeof lines);
+    memcpy(lines[0], tag, strlen(tag));
+    check(tag, claim_tracker_write_transfer(message, CLAIM_TRACKER_TRANSFER_BYTES, fields, lines[0], lines[1]) == 0);
+}
+
+/* Each form answers the number and gives the claims; refused, it leaves book, balances and claim buffer. */
+static void check_days(void) {
+    static uint64_t before[WORDS];
+    uint8_t message[CLAIM_TRACKER_TRANSFER_BYTES], claims[CLAIM_TRACKER_CLAIM_ROOM(11)], untouched[sizeof claims];
+    before[16 * 1 + 2] = 40500;
+    memset(untouched, 0xaa, sizeof untouched);
+    for (size_t i = 0; i < sizeof by_day / sizeof *by_day; i++) {
+        write_tagged(message, by_day[i].fields, by_day[i].tag);
+        for (int form = 0; form < 3; form++) {
+            struct claim_tracker_book book = {by_day[i].day, 7};
+            memcpy(balances, before, sizeof before);
+            memcpy(claims, untouched, sizeof claims);
+            struct claim_tracker_done done = by_form(form, book, ones, 16, message, claims, sizeof claims);
+            check(by_day[i].name, done.number == by_day[i].number && done.claims == by_day[i].claims && done.book.day == book.day
+                                      && done.book.count == 7 + (uint32_t)(by_day[i].number == 0));
+            if (by_day[i].number != 0)
+                check(by_day[i].name, memcmp(claims, untouched, sizeof claims) == 0 && memcmp(balances, before, sizeof before) == 0);
+        }
+    }
+}
+
+/* The eleven claims of a fail on 20230127, whatever the limits are; a buffer one byte short; and a loan off its piece. */
+static void check_half_year(void) {
+    static const uint32_t fewest[CLAIM_TRACKER_LIMIT_WORDS] = {1, 1, 1, 1, 1};
+    static const struct claim_tracker_transfer_fields fail = {1, 2, 0, 0, CLAIM_TRACKER_CODE_NONE, 200000},
+                                                      start = {1, 2, 0, 0, CLAIM_TRACKER_CODE_SLST, 15000};
+    uint32_t thousands[CLAIM_TRACKER_PIECE_WORDS];
+    uint8_t message[CLAIM_TRACKER_TRANSFER_BYTES], claims[CLAIM_TRACKER_CLAIM_ROOM(11)];
+    struct claim_tracker_book book = claim_tracker_open(calendar, 480, tables, 1824, balances, WORDS, 20230127).book;
+    write_tagged(message, fail, "{98A:CNTR/20220601}");
+    struct claim_tracker_done done = with_limits(fewest, 5, book, message, sizeof message, claims, sizeof claims);
+    check("limits are not used on 20230127", done.number == 0 && done.claims == 11);
+    for (size_t i = 0; i < 11; i++) {
+        struct claim_tracker_claim_reading claim = claim_tracker_read_claim(claims + CLAIM_TRACKER_CLAIM_ROOM(i), 35);
+        check("a claim within six months", claim.number == 0 && claim.claim.claim_type == CLAIM_TRACKER_CLAIM_TYPE_FAIL
+                                               && claim.claim.outcome == 0 && claim.claim.payer == 1 && claim.claim.payee == 2
+                                               && claim.claim.security == 0 && claim.claim.row == i + 1 && claim.claim.transfer == 1
+                                               && claim.claim.interest == 100000 && claim.claim.principal == 0
+                                               && claim.claim.release == 20230228 && claim.claim.slot == 3);
+    }
+    done = with_limits(fewest, 4, book, message, sizeof message, claims, sizeof claims);
+    check("but they are judged", done.number == 12 && done.claims == 0);
+    done = by_form(0, book, ones, 16, message, claims, sizeof claims - 1);
+    check("eleven claims one byte short", done.number == 10 && done.claims == 0 && done.book.count == 0);
+    for (size_t i = 0; i < 16; i++) thousands[i] = 1000;
+    write_tagged(message, start, "");
+    check("a loan on its piece", by_form(0, book, thousands, 16, message, claims, 0).number == CLAIM_TRACKER_LENDING_TOO_EARLY);
+    thousands[0] = 999;
+    check("a loan off its piece", by_form(0, book, thousands, 16, message, claims, 0).number == CLAIM_TRACKER_OFF_PIECE);
+}
+
+/* A saved book with a loan and a repo on a day before 20230130: the close into 20230127 crosses that day's Record Date. */
+static void check_held_loan(void) {
+    static const uint8_t close[CLAIM_TRACKER_CLOSE_BYTES] = {2, 0, 2, 0};
+    struct claim_tracker_book book = {20230126, 7};
+    uint8_t claims[CLAIM_TRACKER_CLAIM_ROOM(2)];
+    memset(balances, 0, sizeof balances);
+    balances[16 * 1 + 2] = 15000;
+    balances[REPO + 16 * 1 + 2] = 30000;
+    struct claim_tracker_done done =
+        claim_tracker_close(calendar, 480, tables, 1824, book, balances, WORDS, close, sizeof close, claims, sizeof claims);
+    check("the close of 20230126", done.number == 0 && done.book.day == 20230127 && done.book.count == 7 && done.claims == 2
+                                       && balances[16 * 1 + 2] == 15000);
+    for (uint8_t k = 0; k < 2; k++) {
+        struct claim_tracker_claim_reading claim = claim_tracker_read_claim(claims + CLAIM_TRACKER_CLAIM_ROOM(k), 35);
+        check("what is held is claimed", claim.number == 0 && claim.claim.claim_type == CLAIM_TRACKER_CLAIM_TYPE_LENDING + k
+                                             && claim.claim.outcome == 0 && claim.claim.payer == 2 && claim.claim.payee == 1
+                                             && claim.claim.security == 0 && claim.claim.row == 11 && claim.claim.transfer == 0
+                                             && claim.claim.interest == (k == 0 ? 7500 : 15000) && claim.claim.release == 20230228
+                                             && claim.claim.slot == 3);
+    }
 }
 
 static const uint8_t expected[41] = {0x21, 0x00, 0x03, 0x00, 0x01, 0x00, 0x01, 0x02, 0x00, 0x00, 0x01, 0x00, 0x00, 0x00,
@@ -407,6 +548,11 @@ int main(void) {
     check("four limits before fifteen pieces", done.number == 12 && done.claims == 0);
     done = claim_tracker_transfer(calendar, 480, tables, 1824, ones, 15, book, balances, WORDS, message, sizeof message, two, sizeof two);
     check("fifteen pieces before a closed day", done.number == 13 && done.book.day == 20230402 && done.claims == 0);
+
+    half_year_tables();
+    check_days();
+    check_half_year();
+    check_held_loan();
 
     printf("%d passed, %d failed\n", passed, failed);
     return failed != 0;

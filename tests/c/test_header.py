@@ -13,8 +13,8 @@ from desk import claims, layout  # noqa: E402
 
 SOURCE = os.path.join(building.HERE, "header.c")
 IN_WORDS = {0: "accepted", 1: "length", 2: "calendar", 3: "tables", 4: "day", 5: "record", 6: "security", 7: "decrease", 8: "increase",
-            9: "close", 10: "buffer", 11: "count", 12: "date limits", 13: "the pieces", 14: "no multiple", 132: "more than one",
-            133: "without }", 135: "no date", 138: "after", 139: "not the day"}
+            9: "close", 10: "buffer", 11: "count", 12: "date limits", 13: "the pieces", 14: "no multiple", 15: "lending",
+            132: "more than one", 133: "without }", 135: "no date", 138: "after", 139: "not the day"}
 BENCH_CALLS = ["open", "transfer", "transfer_with_limits", "close", "serve"]
 
 

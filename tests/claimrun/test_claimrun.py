@@ -1,8 +1,9 @@
-"""Tries claimrun as a process: document 01's hex example, refusals, wrong books, memory."""
+"""Tries claimrun as a process: document 01's hex example, days before the memo of 2023, refusals, wrong books, memory."""
 import os
 import random
 import resource
 import signal
+import struct
 import subprocess
 import unittest
 
@@ -47,6 +48,28 @@ class Example(common.Claimrun):
                 wait_until(lambda: state(run.process) in (seen, ""))
             run.send(TRANSFER[50:])
             self.assertEqual(run.end(), (EXPECTED, 0))
+
+    # ---- days before the memo
+
+    def transfer(self, code, line):
+        """A transfer of par 100,000 from account 1 to account 2."""
+        return TRANSFER[:8] + struct.pack("<BI64s64s", code, 100_000, line.ljust(64).encode(), b" " * 64)
+
+    def fails(self, rows, transfer, release):
+        """The claims of a failed transfer on these rows, which are paid."""
+        return b"".join(struct.pack("<HHBBBBBBIQQIB", 33, 3, 1, 0, 1, 2, 0, row, transfer, 50_000, 0, release, 2) for row in rows)
+
+    def test_over_the_first_day_of_the_memo(self):
+        """The same records on 27 January 2023 and, behind a close, on 30 January. The coupons are those of the first of each month, half a
+        cent on the dollar."""
+        months = [20220700 + 100 * month for month in range(6)] + [20230100, 20230200]
+        rows = [struct.pack("<7I", month + 1, month + 1, month + 25, 5_000_000, 0, 0, 0) for month in months]
+        start = 1920 + 4 * 2
+        self.write_book(BOOK[:start] + b"".join(rows) + BOOK[start + 28 * len(rows):-4] + struct.pack("<I", 20230127))
+        records = self.transfer(0, "{98A:CNTR/20220615}") + self.transfer(0, "{98A:CNTR/}") + self.transfer(1, "") + self.transfer(7, "")
+        before = self.fails(range(1, 7), 1, 20230130) + answer(0) + answer(0) + answer(15) + answer(0)
+        behind = self.fails(range(7), 4, 20230131) + answer(0) + answer(135) + answer(0) + answer(0)
+        self.assertEqual(self.output(records + bytes([2, 0, 2, 0]) + records), before + answer(0) + behind)
 
     # ---- refusals
 

@@ -6,6 +6,7 @@ import inspect
 import itertools
 import os
 import random
+import re
 import shutil
 import struct
 import subprocess
@@ -61,24 +62,40 @@ def transfer_hex(sender, receiver, security, class_, code, par, first="", second
     return struct.pack("<HHBBBBBI64s64s", 139, 1, sender, receiver, security, class_, code, par, *lines).hex()
 
 
-def book_lines():
-    """The lines that put the words of document 01's case book, with two more securities and a holding account that is restricted."""
+def case_tables():
+    """Document 01's case tables, with two more securities and a holding account that is restricted."""
     tables = TABLES[:]
     tables[114:114 + 9] = array("I", [1, 3, 20230331, 20230331, 20230403, 22500000, 0, 0, 1 << 5])
     tables[228:228 + 16] = array("I", [4, 2, 20230401, 20230402, 20230403, 7, 1000000000, 0, 0,
                                        20230403, 20230404, 20230405, 0, 1000000000, 1, 0])
+    return tables
+
+
+def monthly_tables():
+    """Three securities with payments around the first of each month from April 2022 to March 2023: an agency MBS, a Treasury, and an MBS
+    guaranteed by the United States whose Record Dates lie ten days before the others."""
+    months = [20220000 + 100 * month for month in range(4, 13)] + [20230100, 20230200, 20230300]
+    tables = array("I", bytes(4 * claim_tracker.TABLE_WORDS))
+    for security, (kind, record) in enumerate(((3, 11), (1, 11), (4, 1))):
+        rows = [word for month in months for word in (month + record, month + 11, month + 25, 5000000, 7, 0, 1 << 5)]
+        tables[114 * security:114 * security + 2 + len(rows)] = array("I", [kind, 1, *rows])
+    return tables
+
+
+def book_lines(tables=None):
+    """The lines that put the words of a book, the case book where no other tables are given."""
     lines = ["calendar %d %d" % pair for pair in enumerate(CALENDAR)]
-    return lines + ["tables %d %d" % pair for pair in enumerate(tables) if pair[1]]
+    return lines + ["tables %d %d" % pair for pair in enumerate(tables or case_tables()) if pair[1]]
 
 
-def random_calls(count, seed):
-    """A list of calls of every kind; most transfers are right but for one field."""
+def random_calls(count, seed, lines, dates):
+    """A list of calls of every kind behind these lines; most transfers are right but for one field, and have the first of the dates."""
     choice = random.Random(seed)
 
     def mostly(usual, *others):
         return choice.choice(others) if choice.random() < 0.1 else usual
 
-    lines = book_lines() + ["open 20230330"]
+    lines = list(lines)
     for _ in range(count):
         form = choice.choice(("", "_in"))
         room = mostly(9000, 0, 34, 35, 244, 245)
@@ -89,11 +106,11 @@ def random_calls(count, seed):
             record = choice.choice(("-", "8b00", "02000200", "04000400"))
             lines.append("%s%s %d %s" % (choice.choice(("transfer", "close")), form, room, record))
         elif kind < 0.2:
-            data = "".join(choice.choice(("02000200", transfer_hex(1, 2, 0, 0, 0, 7, TAG % 20230315))) for _ in range(4))
+            data = "".join(choice.choice(("02000200", transfer_hex(1, 2, 0, 0, 0, 7, TAG % dates[0]))) for _ in range(4))
             data += choice.choice(("", "8b", "0300"))
             lines.append("serve %d %d %s" % (choice.random() < 0.3, choice.choice((65541, 65542, 140000)), data))
         else:
-            day = mostly(20230315, 20230401, 20230405, 20230231, 20391231)
+            day = mostly(*dates)
             tag = mostly(TAG % day, "", "text " + TAG % day, TAG % day + TAG % day, "{98A:CNTR/", "{98A:CNTR/}")
             fields = (mostly(choice.randrange(1, 4), 0, 5, 16), mostly(choice.randrange(4, 6), 1, 255), mostly(choice.randrange(3), 3, 16),
                       mostly(0, 1, 2), mostly(choice.choice((0, 0, 0, 0, 1, 7)), *range(2, 7), *range(8, 14)),
@@ -159,9 +176,22 @@ class AgainstC(building.Library):
 
     def test_random_calls(self):
         """Claims of each type and most numbers occur among them."""
-        found = self.same(random_calls(800, 11))
+        self.has_everything(self.same(random_calls(800, 11, [*book_lines(), "open 20230330"], (20230315, 20230401, 20230405, 20230231,
+                                                                                               20391231))))
+
+    def test_random_calls_before_the_memo(self):
+        """Likewise from 17 October 2022 on, with a loan that is held; lending gets 15, and the list ends on a later day."""
+        lines = [*book_lines(monthly_tables()), "open 20221017", "balances 18 15000"]
+        found = self.same(random_calls(800, 12, lines, (20220715, 20220411, 20221011, 20230102, 20220231, 19991231)))
+        self.has_everything(found, 15)
+        days = [(int(line.split(" book ")[1].split()[0]), int(line.split()[1])) for line in found]
+        self.assertEqual({day < 20230130 for day, number in days if number == 15}, {True})
+        self.assertGreater(days[-1][0], 20230130)
+
+    def has_everything(self, found, *others):
+        """What a random list is to show: these numbers and the usual ones, claims, and runs that are over or full."""
         numbers = {int(line.split()[1]) for line in found}
-        self.assertGreaterEqual(numbers, {0, 5, 6, 7, 10, 12, 13, 14, 132, 133, 135, 138, 139})
+        self.assertGreaterEqual(numbers, {0, 5, 6, 7, 10, 12, 13, 14, 132, 133, 135, 138, 139, *others})
         for name, least in (("transfer", 200), ("close", 5)):
             self.assertGreater(sum(int(line.split()[3]) for line in found if line.startswith(name)), least)
         for kind in ClaimType:
@@ -428,6 +458,185 @@ class Pieces(unittest.TestCase):
         output = bytearray(claim_tracker.RECORD_ROOM)
         served = claim_tracker.serve(CALENDAR, TABLES, Book(DAY), self.balances, message, True, output)
         self.assertEqual((served.book, bytes(output[:41])), (Book(DAY, 1), bytes(claims) + common.answer(0)))
+
+
+class BeforeTheMemo(unittest.TestCase):
+    """Days before 20230130, on a pool (security 0), a Treasury (1) and a pool whose Record Dates lie before its Beneficiary Dates (2)."""
+    OLD, NEW = 20230127, 20230130
+    LIMITS = array("I", [1, 1, 1, 1, 1])
+    EMPTY = "{98A:CNTR/}"
+    FORMS = "transfer", "transfer_in", "transfer_with_limits"
+
+    def setUp(self):
+        self.tables, self.balances, self.pieces = monthly_tables(), claim_tracker.new_balances(), claim_tracker.new_pieces()
+
+    def done(self, form, day, message, room, count=0):
+        """A call in one of its forms: its number, the book after it, and its claims. Refused, it leaves book, balances and claim buffer."""
+        balances, claims, book = self.balances[:], bytearray(b"\xaa" * room), Book(day, count)
+        limits = [self.LIMITS] * form.endswith("limits")
+        done = getattr(claim_tracker, form)(CALENDAR, self.tables, *limits, book, balances, message, claims, pieces=self.pieces)
+        after = book if form.endswith("in") else done.book
+        if done.number:
+            self.assertEqual((after, done.claims, balances, claims), (Book(day, count), 0, self.balances, b"\xaa" * room))
+        return done.number, after, [claim_tracker.read_claim(claims[35 * at:]).claim for at in range(done.claims)]
+
+    def number(self, day, code=0, par=5000, line=TAG % 20220601, *, security=0, class_=0, parties=(1, 2), room=560, count=0, forms=FORMS):
+        """The number that each form answers."""
+        message = bytes.fromhex(transfer_hex(*parties, security, class_, code, par, line))
+        found, *others = (self.done(form, day, message, room, count)[0] for form in forms)
+        self.assertEqual(others, [found] * len(others))
+        return found
+
+    def claims(self, day, line, security=0, form="transfer"):
+        """The type and the row of each claim of an accepted transfer."""
+        number, book, found = self.done(form, day, bytes.fromhex(transfer_hex(1, 2, security, 0, 0, 100000, line)), 560)
+        self.assertEqual((number, book), (0, Book(day, 1)))
+        return [(claim.claim_type, claim.row) for claim in found]
+
+    def fails(self, *rows):
+        return [(ClaimType.FAIL, row) for row in rows]
+
+    def test_lending(self):
+        """Every code of lending gets 15, also on a balance that it could take from; no code of repo does."""
+        self.balances[18] = self.balances[4096 + 18] = 5000
+        for code in range(13):
+            parties = (2, 1) if code in (2, 3, 6, 8, 9, 12) else (1, 2)
+            for line in ("", TAG % 20220601, self.EMPTY):
+                self.assertEqual(self.number(self.OLD, code, line=line, parties=parties), Number.LENDING_TOO_EARLY if 1 <= code <= 6 else 0)
+            self.assertEqual(self.number(self.NEW, code, line="", parties=parties), 0)
+        self.assertEqual(self.number(20000103, 1, line="", forms=("transfer",)), Number.LENDING_TOO_EARLY)
+
+    def test_order(self):
+        """6, 135, 138, 11 and 14 stand before 15, and 7 and 8 behind it."""
+        self.balances[18] = 9000000000
+        self.assertEqual(self.number(self.OLD, 1, parties=(1, 1)), Number.BAD_FIELD)
+        self.assertEqual(self.number(self.OLD, 1, line="{98A:CNTR/ }"), Number.TAG_WITHOUT_DATE)
+        self.assertEqual(self.number(self.OLD, 1, line=TAG % 20230130), Number.CONTRACT_DATE_AFTER_DAY)
+        self.assertEqual(self.number(self.OLD, 1, count=2 ** 32 - 1), Number.COUNT_FULL)
+        self.assertEqual(self.number(self.OLD, 1), Number.LENDING_TOO_EARLY)
+        self.assertEqual(self.number(self.NEW, 1), Number.PAST_LIMIT)
+        self.assertEqual(self.number(self.OLD, 3), Number.LENDING_TOO_EARLY)
+        self.assertEqual(self.number(self.NEW, 3), Number.ABOVE_BALANCE)
+        self.pieces[0] = 1000
+        self.assertEqual(self.number(self.OLD, 1, 5500), Number.OFF_PIECE)
+
+    def test_empty_tags(self):
+        """On an old day of either class and every code that is taken; from the memo's day on 135. What is nearly empty is no date."""
+        for code, class_ in itertools.product((0, 7, 10, 11), (0, 1)):
+            self.assertEqual(self.number(self.OLD, code, line=self.EMPTY, class_=class_), 0)
+            for line in (self.EMPTY, "x" * 53 + self.EMPTY):
+                self.assertEqual(self.number(self.NEW, code, line=line, class_=class_), Number.TAG_WITHOUT_DATE)
+        for line, number in (("{98A:CNTR/ }", 135), ("{98A:CNTR/0}", 135), (TAG % 19991231, 135), ("{98A:CNTR/}{98A:CNTR/}", 132),
+                             (self.EMPTY + TAG % 20220601, 132), ("{98A:CNTR/", 133), ("}{98A:CNTR/", 133), ("x" * 53 + self.EMPTY, 0)):
+            self.assertEqual(self.number(self.OLD, line=line), number, line)
+        self.assertEqual(self.number(self.OLD, line=TAG % 20220601, class_=1), Number.CONTRACT_DATE_NOT_DAY)
+
+    def test_claims_of_an_empty_tag(self):
+        """No fail, and the interim claims of a transfer without a tag."""
+        self.assertEqual(self.claims(self.OLD, self.EMPTY), [])
+        for line in (self.EMPTY, ""):
+            self.assertEqual(self.claims(20230105, line, security=2), [(ClaimType.INTERIM, 9)])
+        self.assertEqual(self.claims(20230105, TAG % 20221101, security=2), self.fails(7, 8) + [(ClaimType.INTERIM, 9)])
+
+    def test_fails_by_type(self):
+        """Only MBS are claimed on an old day."""
+        for kind in claim_tracker.SecurityType:
+            for frequency in claim_tracker.Frequency:
+                if kind:
+                    self.tables[0:2] = array("I", [kind, frequency])
+                    self.assertEqual(self.claims(self.OLD, TAG % 20221101), self.fails(7, 8, 9) if kind >= 3 else [])
+                    self.assertTrue(self.claims(self.NEW, TAG % 20221101))
+
+    def test_fails_by_dates(self):
+        """Rows behind the Contract Date, up to the day, and within six months of it."""
+        for day, contract, rows in ((self.OLD, 20221010, range(6, 10)), (self.OLD, 20221011, range(7, 10)),
+                                    (self.OLD, 20220411, range(4, 10)), (20230110, 20221210, [8]), (20230111, 20221210, [8, 9]),
+                                    (20230111, 20230110, [9]), (20230111, 20230111, []), (20221011, 20220101, range(7)),
+                                    (20221012, 20220101, range(1, 7))):
+            self.assertEqual(self.claims(day, TAG % contract), self.fails(*rows), (day, contract))
+
+    def half_year_before(self, day):
+        """The same day six months before, or the last of that month, by Python's own calendar."""
+        year, month = divmod(12 * day.year + day.month - 1 - 6, 12)
+        return datetime.date(year, month + 1, min(day.day, monthrange(year, month + 1)[1]))
+
+    def test_every_half_year(self):
+        """On each day from 2000 on: of a row on the day six months before and of those beside it, all but the earlier one are claimed."""
+        every_day = array("I", [(1 << monthrange(2000 + month // 12, month % 12 + 1)[1]) - 1 for month in range(480)])
+        first, memo, one = datetime.date(2000, 1, 1), datetime.date(2023, 1, 30), datetime.timedelta(1)
+        message, claims = bytes.fromhex(transfer_hex(1, 2, 0, 0, 0, 100000, TAG % 20000101)), bytearray(560)
+
+        def number(day):
+            return 10000 * day.year + 100 * day.month + day.day
+
+        for place in range((memo - first).days):
+            day = first + place * one
+            edge = self.half_year_before(day)
+            dates = [date for date in (edge - one, edge, edge + one, day) if date > first]
+            rows = [word for date in dates for word in (number(date), number(date), 20391231, 5000000, 0, 0, 0)]
+            tables = array("I", [3, 1, *rows, *[0] * (claim_tracker.TABLE_WORDS - 2 - len(rows))])
+            done = claim_tracker.transfer(every_day, tables, Book(number(day)), self.balances, message, claims)
+            found = [claim_tracker.read_claim(claims[35 * at:]).claim.row for at in range(done.claims)]
+            self.assertEqual((done.number, found), (0, [row for row, date in enumerate(dates) if date >= edge]), day)
+
+    def test_half_years_of_the_document(self):
+        """The days that FORMATS.md lists."""
+        listed = re.findall(r"(?m)^\| (\d{8}) \| (\d{8})\b", building.content("docs", "FORMATS.md"))
+        self.assertGreater(len(listed), 5)
+        for words in listed:
+            day, earliest = (datetime.date.fromisoformat(word) for word in words)
+            self.assertEqual(self.half_year_before(day), earliest)
+            self.assertLess(day.weekday(), 5)
+
+    def test_no_maximum_number(self):
+        """Sixteen rows of the half year, all waiting, give sixteen claims whatever the limits are; on the memo's day the first that waits
+        of the most recent ones is claimed. A buffer one byte short gets 10."""
+        rows = [word for at in range(16) for word in (20230101 + at, 20230101 + at, 20230228, 1000000000, 0, 0, 0)]
+        self.tables[:114] = array("I", [4, 4, *rows])
+        for form in self.FORMS:
+            self.assertEqual(self.claims(self.OLD, TAG % 20221231, form=form), self.fails(*range(16)))
+            self.assertEqual(self.claims(self.NEW, TAG % 20221231, form=form), self.fails(15 if form.endswith("limits") else 9))
+        self.assertEqual(self.number(self.OLD, room=16 * 35 - 1), Number.NO_ROOM)
+        for limits in ([1] * 4, [17] * 5, []):
+            done = claim_tracker.transfer_with_limits(CALENDAR, self.tables, array("I", limits), Book(self.OLD), self.balances,
+                                                      bytes.fromhex(transfer_hex(1, 2, 0, 0, 0, 5, TAG % 20221231)), bytearray(560))
+            self.assertEqual(done, (Number.BAD_LIMITS, Book(self.OLD), 0))
+
+    def test_held_loan(self):
+        """A saved book with par on loan: it is claimed where a close crosses a Record Date, and can be returned from the memo's day on."""
+        self.balances[18] = 15000
+        self.tables[2 + 7 * 9:5 + 7 * 9] = array("I", [self.OLD, self.OLD, 20230228])
+        for call in (claim_tracker.close, claim_tracker.close_in):
+            book, claims = Book(20230126, 7), bytearray(35)
+            done = call(CALENDAR, self.tables, book, self.balances, b"\2\0\2\0", claims)
+            self.assertEqual((done.number, done.claims), (0, 1))
+            self.assertEqual(book if call is claim_tracker.close_in else done.book, Book(self.OLD, 7))
+            self.assertEqual(claim_tracker.read_claim(claims).claim, Claim(ClaimType.LENDING, 0, 2, 1, 0, 9, 0, 7500, 0, 20230228, 3))
+        returned = {"par": 15000, "line": "", "parties": (2, 1)}
+        self.assertEqual((self.number(self.OLD, 3, **returned), self.number(self.NEW, 3, **returned)), (15, 0))
+
+    def test_a_history_over_the_date(self):
+        """The same fail and the same loan on both days, by a run and by calls: six claims and then seven, 15 and then 0."""
+        months = [20220700 + 100 * month for month in range(6)] + [20230100, 20230200]
+        rows = [word for month in months for word in (month + 1, month + 1, month + 25, 5000000, 0, 0, 0)]
+        self.tables[:114] = array("I", [3, 1, *rows, *[0] * (112 - len(rows))])
+        fail, loan = (bytes.fromhex(transfer_hex(1, 2, 0, 0, code, 100000, line)) for code, line in ((0, TAG % 20220615), (1, "")))
+        close, output = b"\2\0\2\0", bytearray(2 * claim_tracker.RECORD_ROOM)
+        book = claim_tracker.open(CALENDAR, self.tables, self.balances, self.OLD).book
+        served = claim_tracker.serve(CALENDAR, self.tables, book, self.balances, fail + loan + close + fail + loan, True, output)
+        self.assertEqual((served.number, served.book, served.over, self.balances[18]), (0, Book(self.NEW, 3), False, 100000))
+        claims, answers, at = [], [], 0
+        while at < served.written:
+            if claim_tracker.read_claim(output[at:]).number == 0:
+                claims.append(claim_tracker.read_claim(output[at:]).claim)
+                at += claim_tracker.CLAIM_BYTES
+            else:
+                answers.append(claim_tracker.read_answer(output[at:]).answer.number)
+                at += claim_tracker.ANSWER_BYTES
+        self.assertEqual(answers, [0, 15, 0, 0, 0])
+        self.assertEqual([(claim.row, claim.release, claim.slot) for claim in claims],
+                         [(row, self.NEW, 2) for row in range(1, 7)] + [(row, 20230131, 2) for row in range(7)])
+        self.assertEqual(sum(claim.interest for claim in claims), 650000)
 
 
 class Largest(unittest.TestCase):

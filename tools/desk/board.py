@@ -96,7 +96,7 @@ class Side:
         self.title = found.take(fields.text, "title", "Transfer %d" % number)
         self.transfer = messages.make_transfer(fields, book.names, found)
         self.settlement = found.take(books.opening_day, fields, "settlement_day", book.calendar)
-        self.contract = found.take(fields.date, "contract_date", None)
+        self.contract = found.take(messages.contract_date, fields) if fields.has("contract_date") else None
         if not found.faults:
             self.judge_rows(found)
 
@@ -108,13 +108,23 @@ class Side:
             if isinstance(value, bool) or value not in filled:
                 found.add(self.fields.fault("rows", "%s is no such row" % sample(value), allowed))
 
+    def has_older_rules(self):
+        """Whether the transfer settles before the memo."""
+        return self.settlement < dates.MEMO_DAY
+
+    def contract_day(self):
+        """The Contract Date; none where there is no tag, or an empty one that does not stand for the settlement day."""
+        if self.contract == messages.EMPTY:
+            return self.settlement if self.has_older_rules() else None
+        return self.contract
+
     def chosen_rows(self):
         """The rows to draw: those that the source names, else those with a date near the transfer's days."""
         filled = self.book.rows(self.transfer.security)
         if self.fields.has("rows"):
             return [entry for entry in filled if entry[0] in self.fields.values["rows"]]
-        first = min(self.contract or self.settlement, self.settlement)
-        last = max(self.contract or self.settlement, self.settlement)
+        contract = self.contract_day() or self.settlement
+        first, last = min(contract, self.settlement), max(contract, self.settlement)
         return [(number, row) for number, row in filled
                 if any(day is not None and first - DAYS_BEFORE <= day <= last + DAYS_AFTER
                        for day in map(dates.of_number, row[:3]))]
@@ -132,7 +142,8 @@ class Side:
 
     def events(self):
         """The dates to mark."""
-        marks = [] if self.contract is None else [timeline.Event(self.contract, "contract", "Contract Date")]
+        day = self.contract_day()
+        marks = [] if day is None else [timeline.Event(day, "contract", "Contract Date")]
         for number, row in self.rows:
             which = ", row %d" % number if len(self.rows) > 1 else ""
             for key, name in (("record", "Record Date"), ("beneficiary", "Beneficiary Date"), ("payment", "Payment Date")):
@@ -151,8 +162,18 @@ class Side:
             found.append(("Tracking code", "%s, %s" % (code, layout.CODE_WORDS[code])))
         if transfer.market:
             found.append(("Market", "other than secondary"))
-        found.append(("Contract Date", timeline.day_words(self.contract) if self.contract else "none given"))
-        return found + [("Settlement day", timeline.day_words(self.settlement))] + self.security_facts()
+        found += [("Contract Date", self.contract_words()), ("Settlement day", timeline.day_words(self.settlement))]
+        if self.has_older_rules():
+            found.append(("Rules", "those of days before %s" % timeline.day_words(dates.MEMO_DAY)))
+        return found + self.security_facts()
+
+    def contract_words(self):
+        """The Contract Date in words."""
+        if self.contract is None:
+            return "none given"
+        if self.contract != messages.EMPTY:
+            return timeline.day_words(self.contract)
+        return "the settlement day, by an empty tag" if self.has_older_rules() else "an empty tag, which holds no date"
 
     def security_facts(self):
         """What the amount of a claim is worked out from: type, frequency, and the factors of each payment that is drawn. A piece that is

@@ -1,5 +1,5 @@
 """Claims: claimrun's output records, and what their numbers mean. Nothing is computed from them."""
-from . import dates, layout, message_text
+from . import dates, layout, message_text, messages
 from .errors import Fault
 
 CLAIM_TYPES = {1: "fail", 2: "interim", 3: "lending", 4: "repo"}
@@ -33,6 +33,7 @@ MEANINGS = {
     12: "the date limits have a wrong length or break a rule",
     13: "the pieces have a wrong length or a number outside 1 to 1,000,000",
     14: "the par is no multiple of the security's piece and does not clear the whole balance",
+    15: "a tracking code of lending on a day before 30 January 2023",
     132: "more than one Contract Date tag opens",
     133: "a Contract Date tag without } in its line",
     135: "the Contract Date tag holds no date",
@@ -151,17 +152,17 @@ def call_words(message, names):
 
 
 def free_text(lines):
-    """The Contract Date where there is one plain tag, else None, and what else stands in each line."""
-    found = [match for line in lines for match in message_text.TAG.finditer(line)]
-    day = dates.of_number(int(found[0][1])) if len(found) == 1 else None
-    rests = lines if day is None else [line.replace(found[0][0], b"") for line in lines]
-    return day, ["".join(chr(byte) if 32 <= byte < 127 else "." for byte in rest) for rest in rests]
+    """The Contract Date, as a source says it, where there is one plain tag, else None, and what else stands in each line."""
+    contract, tag = message_text.plain_tag(lines)
+    rests = lines if contract is None else [line.replace(tag, b"") for line in lines]
+    return contract, ["".join(chr(byte) if 32 <= byte < 127 else "." for byte in rest) for rest in rests]
 
 
 def line_words(*lines):
     """The free text in words."""
-    day, rests = free_text(lines)
-    return ["Contract Date %s" % day] * (day is not None) + [rest for rest in rests if rest]
+    contract, rests = free_text(lines)
+    words = "empty Contract Date tag" if contract == messages.EMPTY else "Contract Date %s" % contract
+    return [words] * (contract is not None) + [rest for rest in rests if rest]
 
 
 def numbered(stream, calls=None):

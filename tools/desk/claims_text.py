@@ -178,13 +178,13 @@ def call_values(entry, names):
     if isinstance(call, layout.Rest):
         return {"call": "no whole message"}
     lines = (call.line1.rstrip(b" "), call.line2.rstrip(b" "))
-    day, texts = claims.free_text(lines)
+    contract, texts = claims.free_text(lines)
     found = {"call": "transfer", "code": claims.CODES.get(call.code, str(call.code))}
     found |= named("sender", call.sender, names.accounts) | named("receiver", call.receiver, names.accounts)
     found |= named("security", call.security, names.securities)
     found |= {"market": claims.MARKET_NAMES.get(call.market, str(call.market)), "par": call.par}
-    if day is not None:
-        found["contract_date"] = str(day)
+    if contract is not None:
+        found["contract_date"] = str(contract)
     return found | {"text%d" % place: shown for place, shown in enumerate(texts, 1) if shown}
 
 

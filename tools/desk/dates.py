@@ -4,6 +4,7 @@ import re
 
 FIRST = datetime.date(2000, 1, 1)
 LAST = datetime.date(2039, 12, 31)
+MEMO_DAY = datetime.date(2023, 1, 30)       # days before it have the rules of the older memo
 ALLOWED = "a date from 2000-01-01 to 2039-12-31, written 2023-04-01 or \"20230401\""
 WEEKDAYS = ("Monday", "Tuesday", "Wednesday", "Thursday", "Friday", "Saturday", "Sunday")
 ONE_DAY = datetime.timedelta(days=1)

@@ -8,7 +8,7 @@ from . import dates, layout, messages
 from .errors import Fault, Mistakes
 from .names import Names
 
-TAG = re.compile(rb"\{98A:CNTR/([0-9]{8})\}")
+TAG = re.compile(rb"\{98A:CNTR/([0-9]{8})?\}")
 HEX_LINE = 64
 
 
@@ -30,6 +30,15 @@ def values_of(message):
     return {"hex": record.hex()}
 
 
+def plain_tag(lines):
+    """The tag in two lines, where there is one and it is empty or has a date: what contract_date says for it, and its bytes."""
+    found = [match for line in lines for match in TAG.finditer(line)]
+    if len(found) != 1:
+        return None, b""
+    digits = found[0][1]
+    return messages.EMPTY if digits is None else dates.of_number(int(digits)), found[0][0]
+
+
 def candidates(message):
     """Ways to say a transfer, the plainest first."""
     if message.market not in layout.MARKETS.values() or message.code not in layout.CODES.values():
@@ -42,13 +51,12 @@ def candidates(message):
     values["par"] = message.par
     lines = (message.line1, message.line2)
     texts = [line.decode("latin-1").rstrip(" ") for line in lines]
-    found = [match for line in lines for match in TAG.finditer(line)]
-    day = dates.of_number(int(found[0][1])) if len(found) == 1 else None
-    if day is not None:
-        marked = [text.replace(messages.tag(day), messages.MARKER) for text in texts]
+    contract, tag = plain_tag(lines)
+    if contract is not None:
+        marked = [text.replace(tag.decode("ascii"), messages.MARKER) for text in texts]
         if marked[0].startswith(messages.MARKER):
             marked[0] = marked[0][len(messages.MARKER):]
-        yield values | {"contract_date": day} | text_values(marked)
+        yield values | {"contract_date": contract} | text_values(marked)
     yield values | text_values(texts)
     yield values | {"line%d_hex" % number: line.hex() for number, line in enumerate(lines, 1) if line.strip(b" ")}
 
@@ -75,7 +83,7 @@ def quoted(text):
 
 
 def toml_value(key, value):
-    if key == "contract_date":
+    if key == "contract_date" and value != messages.EMPTY:
         return str(value)
     if isinstance(value, int):
         return format(value, "_") if key == "par" else str(value)

@@ -13,6 +13,8 @@ TRANSFER_KEYS = ("sender", "receiver", "security", "market", "code", "par", "con
 COLUMNS = ("close",) + TRANSFER_KEYS + ("hex",)
 NUMBER_COLUMNS = ("close", "sender", "receiver", "security", "par")
 MARKER = "{contract_date}"
+EMPTY = "empty"                             # the contract_date of a tag without a date
+CONTRACT_DATE = '%s; or "%s" for a tag without a date' % (dates.ALLOWED, EMPTY)
 CLOSES_MAX = 100_000
 PRINTABLE = re.compile(r"[ -~]*")
 csv.field_size_limit(2 ** 31 - 1)
@@ -29,9 +31,17 @@ class CsvRow(Fields):
         return Fault(self.path, what, allowed, self.line, key)
 
 
-def tag(day):
-    """The Contract Date tag."""
-    return "{98A:CNTR/%d}" % dates.number(day)
+def tag(contract):
+    """The tag of a Contract Date, or the empty one."""
+    return "{98A:CNTR/%s}" % ("" if contract == EMPTY else dates.number(contract))
+
+
+def contract_date(fields):
+    """The Contract Date that the fields give: a date, or EMPTY."""
+    value = fields.value("contract_date", CONTRACT_DATE)
+    if isinstance(value, str) and value.strip() == EMPTY:
+        return EMPTY
+    return fields.date_of("contract_date", value, CONTRACT_DATE)
 
 
 def make_one(fields, its_names, found):
@@ -99,7 +109,7 @@ def make_lines(fields, found):
 
 def with_tag(fields, texts):
     """The texts with the tag of contract_date in its place."""
-    written = tag(fields.date("contract_date"))
+    written = tag(contract_date(fields))
     markers = sum(text.count(MARKER) for text in texts.values())
     if markers > 1:
         raise fields.fault("text1", "%s stands there more than once" % MARKER, "one place for the tag")
@@ -118,7 +128,7 @@ def make_line(fields, number, text):
         if text:
             raise fields.fault(hex_key, "stands beside %s" % key, "one of the two")
         return hex_bytes(fields, hex_key, layout.LINE)
-    allowed = "at most 64 printable ASCII characters, the tag of contract_date (19) included"
+    allowed = "at most 64 printable ASCII characters, the tag of contract_date (19, or 11 where it is empty) included"
     if not PRINTABLE.fullmatch(text):
         wrong = next(letter for letter in text if not PRINTABLE.fullmatch(letter))
         raise fields.fault(key, "has the character %s" % wrong, allowed)

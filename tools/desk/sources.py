@@ -154,10 +154,10 @@ class Fields:
             return value
         return self.date_of(key, value)
 
-    def date_of(self, key, value):
+    def date_of(self, key, value, allowed=dates.ALLOWED):
         day = dates.read(value)
         if day is None:
-            raise self.fault(key, "%s is no date here%s" % (sample(value), dates.meant(value)), dates.ALLOWED)
+            raise self.fault(key, "%s is no date here%s" % (sample(value), dates.meant(value)), allowed)
         return day
 
     def items(self, key, allowed):

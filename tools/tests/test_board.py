@@ -13,6 +13,13 @@ WORKSHOP = os.path.join(EXAMPLES, "workshop-pair.toml")
 WIDTHS = (420, 800, 1280, 1600)
 TWO_ROWS = BOOK + PAIR.replace("settlement_day = 2023-04-04", "settlement_day = 2023-05-09")
 
+# The same transfer on the last day of the older rules and on the first of today's, in a pool with a coupon on the first of each month.
+AROUND_THE_MEMO = BOOK[:BOOK.index("[[security.payment]]")] + "".join(
+    '[[security.payment]]\nrecord = %d\nbeneficiary = %d\npayment = %d\ninterest = "0.005"\n' % (month + 1, month + 1, month + 25)
+    for month in (20220700, 20220800, 20220900, 20221000, 20221100, 20221200, 20230100)) + PAIR.replace(
+    "settlement_day = 2023-04-04", "settlement_day = 2023-01-27").replace(
+    "settlement_day = 2023-03-31", "settlement_day = 2023-01-30").replace("2023-03-15", "2022-06-15")
+
 # Long names, many rows, several marks on one day, marks on closed days, a span of years.
 HARD = """title = "A pair with %s"
 [calendar]
@@ -192,6 +199,31 @@ class Board(Pages):
             self.assertEqual(re.findall(r"Beneficiary Date \w+ 1 (\w+) 2023: (claimed|not claimed)", folded),
                              [("Apr", april), ("May", may)] * 2)
 
+    def test_days_before_the_memo(self):
+        """The older rules are told where they hold; the coupon of July is more than six months back there."""
+        page = self.parsed(AROUND_THE_MEMO)
+        self.assertEqual(page.words.count("those of days before Mon 30 Jan 2023"), 1)
+        self.assertLess(page.words.index("those of days before"), page.words.index("Other"))
+        self.assertEqual(re.findall(r"Beneficiary Date \w+ 1 Jul 2022: (claimed|not claimed)", page.folded), ["not claimed", "claimed"])
+        self.assertEqual(len(re.findall(r"Beneficiary Date \w+ 1 \w+ \w+: claimed", page.folded)), 6 + 7)
+        self.assertNotIn("Rules", self.parsed(BOOK + PAIR).words)
+
+    def test_empty_tags(self):
+        """Before the memo an empty tag is the settlement day, where it is marked; later it holds no date."""
+        page = self.parsed(AROUND_THE_MEMO.replace("contract_date = 2022-06-15", 'contract_date = "empty"'))
+        for words in ("the settlement day, by an empty tag", "Fri 27 Jan 2023: Contract Date; Fri 27 Jan 2023: Settlement day",
+                      "an empty tag, which holds no date"):
+            self.assertEqual(page.words.count(words), 1, words)
+        self.assertNotIn("Mon 30 Jan 2023: Contract Date", page.words)
+        self.assertIn("Nobody owes anything.", page.folded)
+        self.assertIn("claimrun refuses the transfer: 135, the Contract Date tag holds no date", page.folded)
+
+    def test_lending_before_the_memo(self):
+        page = self.parsed(AROUND_THE_MEMO.replace("par = 200_000", 'par = 200_000\ncode = "SLST"'))
+        self.assertEqual(page.words.count("SLST, loan start"), 2)
+        self.assertEqual(page.folded.count("claimrun refuses the transfer: 15, a tracking code of lending on a day before 30 January 2023"), 1)
+        self.assertEqual(page.folded.count("Nobody owes anything."), 1)
+
     def test_tracking_codes_by_their_words(self):
         """A loan and a repo settle without a claim, each under its name."""
         page = self.parsed((BOOK + PAIR).replace('title = "One"', 'title = "One"\ncode = "SLST"')
@@ -201,7 +233,7 @@ class Board(Pages):
         self.assertEqual(page.folded.count("Nobody owes anything."), 2)
 
     def test_dates_have_one_form(self):
-        for source in (WORKSHOP, TWO_ROWS):
+        for source in (WORKSHOP, TWO_ROWS, AROUND_THE_MEMO, AROUND_THE_MEMO.replace("par = 200_000", 'par = 200_000\ncode = "SLST"')):
             page = self.parsed(source)
             self.assertNotRegex(page.words + page.folded, "[0-9]{4}-[0-9]{2}-[0-9]{2}")
 
@@ -289,7 +321,7 @@ class Seen(Pages):
             self.assertEqual(days[0][day], days[1][day], day)
 
     def test_nothing_is_cut_off(self):
-        for source in (WORKSHOP, HARD, TWO_ROWS):
+        for source in (WORKSHOP, HARD, TWO_ROWS, AROUND_THE_MEMO):
             page = self.page(source)
             for width in WIDTHS:
                 with self.subTest(source=source[-40:], width=width):

@@ -177,6 +177,19 @@ class Claims(common.Desk):
         self.assertEqual((rows[1]["text2"], rows[2]["transfer"], rows[3]["day"]), ("'=1+1", "", "2023-04-05"))
         self.assertIn("accepted: close, to 2023-04-05", self.shown(data, *args))
 
+    def test_empty_tag(self):
+        """It is told beside what else stands in the lines, and is no date."""
+        source = self.file("m.toml", '[[message]]\nsender = 1\nreceiver = 2\nsecurity = 0\npar = 200_000\ncontract_date = "empty"\n'
+                           'text2 = "more"\n')
+        self.good("messages", "make", source, "-o", self.path("m.dat"))
+        args = ("--messages", self.path("m.dat"))
+        found = self.objects(answer(135), *args)[0]
+        self.assertEqual((found["contract_date"], found.get("text1"), found["text2"]), ("empty", None, "more"))
+        rows = list(csv.DictReader(io.StringIO(self.shown(answer(135), "--format", "csv", *args))))
+        self.assertEqual((rows[0]["contract_date"], rows[0]["text1"], rows[0]["text2"]), ("empty", "", "more"))
+        self.assertIn("REFUSED 135, the Contract Date tag holds no date: transfer account 1 to account 2, security 0, par 200,000, "
+                      "empty Contract Date tag, more\n", self.shown(answer(135), *args))
+
     def test_nothing_is_added_up(self):
         data = (claim(interest=1234) + answer(0)) * 2
         for form in ("text", "csv", "json"):

@@ -134,9 +134,14 @@ MESSAGE_ERRORS = (
     ("contract_date = 2023-03-15", 'contract_date = "15 March"',
      (":30: [[message]] 1, contract_date: \"15 March\" is no date", DATES)),
     ("contract_date = 2023-03-15", "contract_date = 1999-12-31", ("1999-12-31 is no date here",)),
+    ("contract_date = 2023-03-15", 'contract_date = ""',
+     (':30: [[message]] 1, contract_date: "" is no date here', DATES, 'or "empty" for a tag without a date')),
+    ("contract_date = 2023-03-15", 'contract_date = "none"', ('contract_date: "none" is no date here', 'or "empty"')),
+    ("contract_date = 2023-03-15", 'contract_date = "empty"\ntext1 = "%s"' % ("x" * 54),
+     ("text1: the line has 65 characters", "(19, or 11 where it is empty)")),
     ("contract_date = 2023-03-15", 'text1 = "%s"' % ("x" * 65), ("text1: the line has 65 characters", "at most 64")),
     ("contract_date = 2023-03-15", 'contract_date = 2023-03-15\ntext1 = "%s"' % ("x" * 46),
-     ("the line has 65 characters", "(19)")),
+     ("the line has 65 characters", "(19, or 11 where it is empty)")),
     ("contract_date = 2023-03-15", 'text1 = "é"', ("text1: has the character é", "printable ASCII")),
     ("contract_date = 2023-03-15", 'text2 = "a\\nb"', ("text2: has the character U+000A",)),
     ("contract_date = 2023-03-15", "text2 = 5", ("5 is no text", "text in quotes")),
@@ -174,6 +179,7 @@ CSV_ERRORS = (
     ("sender,receiver,security,par\n1,First Bank,0,5\n", (':2: receiver: "First Bank" is not known', "0 to 15")),
     ("sender,receiver,security,par,contract_date\n1,2,0,5,15/03/2023\n",
      (':2: contract_date: "15/03/2023" is no date here (meant: 2023-03-15?)', DATES)),
+    ("sender,receiver,security,par,contract_date\n1,2,0,5,blank\n", (':2: contract_date: "blank" is no date here', 'or "empty"')),
     ('close\n"1\n', (":2: no CSV",)),
     (b"close\n\xff\n", (":2: byte 6 is not UTF-8", "UTF-8")),
 )
@@ -189,6 +195,7 @@ PAIR_ERRORS = (
     ("title = \"One\"", "rows = [2]", ("[[transfer]] 1, rows: 2 is no such row", "0, 1")),
     ("title = \"One\"", "rows = 0", ("rows: 0 is no list",)),
     ("par = 200_000", "par = 0", ("[[transfer]] 1, par: 0 is out of range",)),
+    ("contract_date = 2023-03-15", 'contract_date = ""', ('[[transfer]] 1, contract_date: "" is no date here', 'or "empty"')),
 )
 
 

@@ -1,4 +1,4 @@
-"""The examples against their stored output, and Attachment II against what the memo says."""
+"""The examples against their stored output, and the memos' attachments against what the memos say."""
 import json
 import os
 import subprocess
@@ -65,6 +65,36 @@ class Examples(common.Desk):
             found = self.claims("attachment-2-%s.toml" % kind)[1]
             self.assertEqual([(claim["type"], claim["payer_name"], claim["payee_name"], claim["security_name"], claim["interest"],
                                claim["release_date"]) for claim in found], [(kind, *claim) for claim in both + others])
+
+    def test_attachment_3_fails(self):
+        """Payer, payee, Beneficiary Date and release date of Memo 219's examples 1 to 5; the first and the last, a repo, give none."""
+        asked, given = [], []
+        for year in (2002, 2004):
+            calls, found = self.claims("attachment-3-fails-%d.toml" % year)
+            asked += [(call["text2"][-1], call["code"], call["par"]) for call in calls.values() if call["call"] == "transfer"]
+            given += [(calls[claim["message"]]["text2"][-1], claim["type"], claim["payer_name"], claim["payee_name"],
+                       claim["beneficiary_date"], claim["release_date"]) for claim in found]
+        self.assertEqual(asked, [("1", "none", 100_000), ("2", "none", 200_000), ("4", "none", 400_000), ("3", "none", 300_000),
+                                 ("5", "RPST", 500_000)])
+        self.assertEqual(given, [("2", "fail", "Bank Y/General", "Bank Z/Trust", "2002-04-01", "2002-04-15"),
+                                 ("4", "fail", "Bank Y/Dealer", "Bank X/Dealer", "2002-04-01", "2002-05-10"),
+                                 ("4", "fail", "Bank Y/Dealer", "Bank X/Dealer", "2002-05-01", "2002-05-15"),
+                                 ("3", "fail", "Bank X/Dealer", "Bank Z/Dealer", "2004-04-01", "2004-04-21")])
+
+    def test_before_and_after(self):
+        """Each message on 27 and on 30 January 2023: its answer and how many coupons it claims. On 1 February the loan and the repo are
+        claimed, and the fail claims seven coupons again."""
+        calls, found = self.claims("before-and-after.toml")
+        counts = {number: [claim["type"] for claim in found if claim["message"] == number] for number in calls}
+        told = [(call.get("code"), call.get("contract_date"), call["answer"], counts[number]) for number, call in calls.items()]
+        agreed = "2022-06-15"
+        self.assertEqual(told[:5], [("none", agreed, 0, ["fail"] * 6), ("none", agreed, 0, []), ("none", "empty", 0, []),
+                                    ("SLST", None, 15, []), ("RPST", None, 0, [])])
+        self.assertEqual(told[6:10], [("none", agreed, 0, ["fail"] * 7), ("none", agreed, 0, ["fail"] * 2), ("none", "empty", 135, []),
+                                      ("SLST", None, 0, [])])
+        self.assertEqual(told[10:], [(None, None, 0, []), (None, None, 0, ["lending", "repo"]), ("none", agreed, 0, ["fail"] * 7)])
+        self.assertEqual([claim["beneficiary_date"] for claim in found if claim["message"] in (1, 7)][5:8],
+                         ["2023-01-01", "2022-07-01", "2022-08-01"])
 
     def test_long_delay(self):
         """June and July wait on 21 July, July alone on the 25th; only the second transfer's Contract Date lies behind June."""

@@ -39,7 +39,7 @@ class Messages(common.Desk):
             self.assertEqual('code = "%s"' % tag in self.back(record(code=code)), code > 0)
 
     def test_lines(self):
-        tag = b"{98A:CNTR/20230315}"
+        tag, empty = b"{98A:CNTR/20230315}", b"{98A:CNTR/}"
         head = "[[message]]\nsender = 1\nreceiver = 2\nsecurity = 0\npar = 200_000\n"
         for text, line1, line2 in (
                 ("", b"", b""),
@@ -48,6 +48,11 @@ class Messages(common.Desk):
                 ('contract_date = 2023-03-15\ntext1 = " A"\ntext2 = "B"', tag + b" A", b"B"),
                 ('contract_date = "20230315"\ntext1 = "A {contract_date} B"', b"A " + tag + b" B", b""),
                 ('contract_date = 2023-03-15\ntext1 = "A"\ntext2 = "{contract_date}"', b"A", tag),
+                ('contract_date = "empty"', empty, b""),
+                ('contract_date = " empty "\ntext1 = " A"\ntext2 = "B"', empty + b" A", b"B"),
+                ('contract_date = "empty"\ntext1 = "A {contract_date} B"', b"A " + empty + b" B", b""),
+                ('contract_date = "empty"\ntext1 = "A"\ntext2 = "{contract_date}"', b"A", empty),
+                ('contract_date = "empty"\ntext1 = "%s"' % ("x" * 53), empty + b"x" * 53, b""),
                 ('text1 = "{contract_date}"', b"{contract_date}", b""),
                 ('text1 = "%s"' % ("x" * 64), b"x" * 64, b""),
                 ('line1_hex = "%s"\ntext2 = "B"' % ("00" * 64), bytes(64), b"B"),
@@ -57,10 +62,20 @@ class Messages(common.Desk):
 
     def test_lines_that_are_no_plain_text(self):
         for line in (bytes(64), b"\xe9", b"a\tb", b"{98A:CNTR/20231399}", b"{98A:CNTR/", b"{98A:CNTR/20230315}" * 3,
-                     b"{contract_date}{98A:CNTR/20230315}", b'quote " and \\', b" leading", b"{98A:CNTR/20230315}x" * 2):
+                     b"{contract_date}{98A:CNTR/20230315}", b'quote " and \\', b" leading", b"{98A:CNTR/20230315}x" * 2,
+                     b"{98A:CNTR/ }", b"{98A:CNTR/}" * 2, b"{contract_date}{98A:CNTR/}", b"{98A:CNTR/}x{98A:CNTR/20230315}"):
             for fill in (b" ", b"\0"):
                 self.back(record(line1=line, fill=fill))
                 self.back(record(line2=line, fill=fill))
+
+    def test_empty_tag(self):
+        """It is shown by its own word; two tags, and one that holds anything else, are shown as text."""
+        self.assertIn('\ncontract_date = "empty"\n', self.back(record(line1=b"{98A:CNTR/}")))
+        self.assertIn('\ncontract_date = "empty"\ntext2 = "A {contract_date}"\n', self.back(record(line2=b"A {98A:CNTR/}")))
+        for line in (b"{98A:CNTR/ }", b"{98A:CNTR/0}", b"{98A:CNTR/}{98A:CNTR/20230315}", b"{98A:CNTR/", b"{98A:CNTR/empty}"):
+            self.assertIn('\ntext1 = "%s"\n' % line.decode(), self.back(record(line1=line)))
+        self.assertEqual(self.made("sender,receiver,security,par,contract_date\n1,2,0,200000,empty\n1,2,0,200000,\n", "m.csv"),
+                         record(line1=b"{98A:CNTR/}") + record())
 
     def test_fields_out_of_range_as_hex(self):
         for fields in ({"sender": 200}, {"receiver": 16}, {"receiver": 1}, {"security": 16}, {"market": 2}, {"code": 13},

@@ -118,6 +118,12 @@ impl<'a> Sound<'a> {
         if whole || clears { Ok(()) } else { Err(14) }
     }
 
+    /// Before the memo there is no lending.
+    fn judge_lending(&self, transfer: &Transfer) -> Result<(), u16> {
+        let is_lending = (1..=6).contains(&transfer.code);
+        if is_lending && days::is_before_memo(self.book.day) { Err(15) } else { Ok(()) }
+    }
+
     /// The word of the balances that a transfer changes and what it becomes.
     fn tracked(&self, par: u64, change: &Change) -> Result<Option<(usize, u64)>, u16> {
         match *change {
@@ -142,6 +148,7 @@ impl<'a> Sound<'a> {
         let counted = Book { count, ..self.book };
         let change = change(&transfer);
         self.judge_piece(&transfer, &change)?;
+        self.judge_lending(&transfer)?;
         let tracked = self.tracked(transfer.par as u64, &change)?;
         let written = match transfer.code {
             0 => claims::write_transfer(self.calendar, self.tables, self.limits, counted, &transfer, contract, claims)?,

@@ -93,23 +93,40 @@ struct Claimed {
     interim: usize,
 }
 
-/// Record and Beneficiary Dates rise, so the rows with such a date up to the day stand first. Of those with the Beneficiary Date, a fail
-/// claims the most recent ones, and in an MBS only the first of these that waits for its Payment Date; interim are those with the Record
-/// Date alone.
+/// The rows that a fail claims of those reached on the day, a bit for each: the most recent ones, and in an MBS only the first of these that
+/// waits for its Payment Date.
+fn failed(security: &Security, reached: &[Row], limits: &Limits, day: u32, contract: u32) -> u32 {
+    let recent = reached.iter().rev().take(limits::of(limits, security));
+    let count = recent.take_while(|row| contract < row[1]).count();
+    let claimed = reached.len() - count..reached.len();
+    let dropped = if tables::is_mbs(security) { later_waiting(reached, claimed.clone(), day) } else { 0 };
+    bits(claimed) & !dropped
+}
+
+/// The same on a day before the memo: of an MBS all those from the same day six months earlier on.
+fn failed_before_memo(security: &Security, reached: &[Row], day: u32, contract: u32) -> u32 {
+    if !tables::is_mbs(security) {
+        return 0;
+    }
+    let earliest = days::six_months_before(day);
+    let count = reached.iter().rev().take_while(|row| contract < row[1] && earliest <= row[1]).count();
+    bits(reached.len() - count..reached.len())
+}
+
+/// Record and Beneficiary Dates rise, so the rows with such a date up to the day stand first. A fail claims of those with the Beneficiary
+/// Date; interim, in an MBS, are those with the Record Date alone.
 fn claimed(security: &Security, limits: &Limits, day: u32, contract: Option<u32>) -> Claimed {
     let rows = tables::rows(security);
     let up_to_day = |date: usize| rows.iter().take_while(|row| row[date] != 0 && row[date] <= day).count();
-    let reached = up_to_day(1);
-    let fails = contract.map_or(0, |contract| {
-        let recent = rows[..reached].iter().rev().take(limits::of(limits, security));
-        recent.take_while(|row| contract < row[1]).count()
-    });
-    let fails = reached - fails..reached;
-    if !tables::is_mbs(security) {
-        return Claimed { rows: bits(fails), interim: reached };
-    }
-    let interim = reached..reached.max(up_to_day(0));
-    Claimed { rows: bits(fails.clone()) & !later_waiting(rows, fails, day) | bits(interim), interim: reached }
+    let interim = up_to_day(1);
+    let reached = &rows[..interim];
+    let fails = match contract {
+        None => 0,
+        Some(contract) if days::is_before_memo(day) => failed_before_memo(security, reached, day, contract),
+        Some(contract) => failed(security, reached, limits, day, contract),
+    };
+    let end = if tables::is_mbs(security) { interim.max(up_to_day(0)) } else { interim };
+    Claimed { rows: fails | bits(interim..end), interim }
 }
 
 /// The fail and interim claims of a transfer of code 0, written from the buffer's start, or 10. The book has counted the transfer.

@@ -6,6 +6,9 @@ pub type Calendar = [u32; CALENDAR_WORDS];
 pub const FIRST: u32 = 20000101;
 pub const LAST: u32 = 20391231;
 
+/// The first day of Clearing Memo 278; days before it keep the rules of Memo 219.
+const MEMO_DAY: u32 = 20230130;
+
 const LENGTHS: [u32; 12] = [31, 28, 31, 30, 31, 30, 31, 31, 30, 31, 30, 31];
 
 /// The days of each month as bits.
@@ -45,6 +48,19 @@ fn date(month: usize, bit: u32) -> u32 {
 
 pub fn is_date(number: u32) -> bool {
     month_and_bit(number).is_some()
+}
+
+pub fn is_before_memo(day: u32) -> bool {
+    day < MEMO_DAY
+}
+
+/// The same day six months before a date, or the last day of that month where it is shorter. It may lie in 1999.
+pub fn six_months_before(date: u32) -> u32 {
+    let (year, month, day) = (date / 10000, date / 100 % 100, date % 100);
+    let (year, month) = if month > 6 { (year, month - 6) } else { (year - 1, month + 6) };
+    let leap = month == 2 && year.is_multiple_of(4);
+    let length = LENGTHS[month as usize - 1] + leap as u32;
+    10000 * year + 100 * month + day.min(length)
 }
 
 /// Whether every bit that is on is a day of its month.

@@ -19,7 +19,11 @@ pub fn contract_date(lines: [&Line; 2], day: u32, class: u8) -> Result<Option<u3
         return Err(132);
     }
     let end = text.iter().position(|&byte| byte == b'}').ok_or(133u16)?;
-    let date = read_date(&text[..end]).ok_or(135u16)?;
+    let date = match &text[..end] {
+        // Before the memo an empty tag means the day itself.
+        [] if days::is_before_memo(day) => day,
+        held => read_date(held).ok_or(135u16)?,
+    };
     if date > day {
         return Err(138);
     }
