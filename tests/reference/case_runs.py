@@ -1,17 +1,20 @@
 """Document 01's cases that no theorem states, its mistakes to rule out, the fail, interim, repo and lending examples of source document 001
-(Clearing Memo 278), Attachment II, and the edges of the rules of interim claims, of pools that pay late, of repos beside loans, of date
-limits and of minimum pieces, by the reference.
+(Clearing Memo 278), Attachment II, the fail examples of source document 004 (Clearing Memo 219), Attachment 3, and the edges of the rules
+of interim claims, of pools that pay late, of repos beside loans, of date limits, of minimum pieces and of days before the memo of 2023, by
+the reference.
 
     python3 case_runs.py REFERENCE_FOLDER STEPS_FILE
 
 writes the calls to STEPS_FILE (crates/case_runs/data/case_runs.in) and prints what the program case_runs has to write for them
 (crates/case_runs/stdout). Years and factors of the memo's fail and lending examples are those of the reference's cases.py, and the repo
-examples have those of lending; the interim examples are in 2026, where both Settlement Dates, 7 and 17 December, are open days. Each run is
-made by the reference's tally and its direct calls side by side, but for saved books, which only the direct calls can take.
+examples have those of lending; the interim examples are in 2026, where both Settlement Dates, 7 and 17 December, are open days. Memo 219's
+examples are in 2002 or 2004, where their Settlement Dates and the days of their claims are open days. Each run is made by the reference's
+tally and its direct calls side by side, but for saved books, which only the direct calls can take.
 
 Under a call stand its claims and the balances that are not zero: 'lent' for a loan and 'repo' for a repo, each with security, lender,
 borrower and par, loans first.
 """
+import datetime
 import sys
 
 import step_files
@@ -21,8 +24,15 @@ rules = cards.Rules(step_files.CARDS)
 steps = step_files.Steps(ref, rules)
 ROOM = 4096
 TRACKINGS = (("loan", 1), ("repo", 7))      # each with its first code
-W, X, Y, Z = 3, 0, 1, 2      # the memo's banks
+W, X, Y, Z = 3, 0, 1, 2      # the memos' banks
 CALENDAR = mk.weekdays()
+EVERY_DAY = mk.calendar_of(lambda date: True)
+EMPTY_TAG = mk.tag(b"")
+LAST_DAY, MEMO_DAY = 20230127, 20230130     # the last open day before the memo of 2023, and the memo's
+# Days, each with the same day six months earlier, or the last day of that month where it is shorter.
+HALF_YEARS = {20220831: 20220228, 20200831: 20200229, 20220630: 20211230, 20221231: 20220630, 20000131: 19990731, 20000815: 20000215,
+              20000831: 20000229, 20210829: 20210228, 20200828: 20200228, 20210331: 20200930, 20220531: 20211130, 20221031: 20220430,
+              20220101: 20210701, 20000701: 20000101, 20000702: 20000102, 20230129: 20220729}
 
 
 class Run:
@@ -393,6 +403,219 @@ def pieces_beside_other_causes(run, sent, thousand):
     sent("bad-list-and-bad-tables", 200_000, pieces=bad)
 
 
+def memo_219_fails():
+    """Memo 219's fail tracking, examples 1 to 5, each with its own security; the fifth is a repo, with a tag and without."""
+    examples = (("1", 20020320, W, X, 100_000), ("2", 20020404, Y, Z, 200_000), ("3", 20040420, X, Z, 300_000),
+                ("4", 20020509, Y, X, 400_000), ("5", 20040420, X, Z, 500_000))
+    tables = mk.tables_of({s: mk.security(3, 1, cases.monthly(settlement // 10000, (4, 5) if name == "4" else (4,)))
+                           for s, (name, settlement, *_) in enumerate(examples)})
+    for cusip, (name, settlement, sender, receiver, par) in enumerate(examples):
+        run = Run("memo-219-example-" + name, settlement, tables)
+        code = 7 if name == "5" else 0
+        run.transfer("transfer", sender, receiver, cusip, par, code, contract=settlement // 10000 * 10000 + 315)
+    run.transfer("no-tag", sender, receiver, cusip, par, code)
+
+
+def beside(date, days):
+    """The date so many days after this one."""
+    return mk.number(mk.as_date(date) + datetime.timedelta(days=days))
+
+
+def about(date):
+    """A date, the one before it and the one after it; the first dates where none of these is a date."""
+    return [d for d in (beside(date, n) for n in (-1, 0, 1)) if d >= ref.FIRST_DATE] or [ref.FIRST_DATE + n for n in range(3)]
+
+
+def half_years():
+    """Rows about the same day six months earlier, paid on the day: on the day before it, on the day itself and on the day after it. Then
+    the first three days, and the last day before the memo and the memo's own, with loans and empty tags."""
+    tables = mk.tables_of({s: mk.security(3 + s % 2, 1, [ref.Row(date, date, day, 5_000_000, 0, 0, 0) for date in about(earlier)])
+                           for s, (day, earlier) in enumerate(HALF_YEARS.items())})
+    run = Run("half-year", 20000101, tables, EVERY_DAY)
+
+    def days(name, security, first, count, with_others=False):
+        run.open(name + "-opening", first)
+        for n in range(count):
+            day = "%s-%d" % (name, beside(first, n))
+            run.transfer(day, X, Y, security, 100_000, contract=ref.FIRST_DATE)
+            if with_others:
+                run.transfer(day + "-loan", X, Y, security, 100_000, 1)
+                run.transfer(day + "-empty-tag", X, Y, security, 100_000, contract=b"")
+                run.transfer(day + "-contract-date-in-1999", X, Y, security, 100_000, contract=19991231)
+            run.close(day + "-close")
+
+    for security, day in enumerate(HALF_YEARS):
+        days("of-%d" % day, security, beside(day, -1), 3)
+    days("first-days", list(HALF_YEARS).index(20000131), 20000101, 3, with_others=True)
+    days("memo", list(HALF_YEARS).index(20230129), 20230129, 2, with_others=True)
+
+
+def memo_securities():
+    """Securities by name, each with its type, frequency and rows, for the days about the memo's."""
+    def row(date, payment):
+        return ref.Row(date, date, payment, 5_000_000, 0, 0, 0)
+
+    firsts = (20220701, 20220801, 20220901, 20221001, 20221101, 20221201, 20230101, 20230201)
+    monthly, interim_row = [row(date, date + 24) for date in firsts], row(20230120, 20230225)._replace(beneficiary=20230215)
+    return {"type-%d" % kind: (kind, 1, monthly) for kind in (1, 2, 3, 4)} | {
+        "annual": (4, 4, monthly),
+        "outcomes": (3, 1, changed(changed(changed(monthly, 4, mask=1 << 1), 5, interest_factor=0), 6, final=1)),
+        "february": (3, 1, [row(20220228, 20220315), row(20220301, 20220315), row(20220801, 20220815)]),
+        "eleven": (4, 1, [row(date + n, 20230615) for date in firsts[1:6] for n in (0, 14)] + [row(20230101, 20230615)]),
+        "interim": (3, 1, [interim_row]),
+        "interim-behind": (4, 1, monthly[:7] + [interim_row]),
+        "on-the-day": (3, 1, [row(20230127, 20230215), row(20230130, 20230215)])}
+
+
+SECURITIES = memo_securities()
+MEMO_TABLES = mk.tables_of({s: mk.security(*found) for s, found in enumerate(SECURITIES.values())})
+
+
+def word_of(security):
+    """The word of the balances with what account 1 has lent account 2."""
+    return ref.place(list(SECURITIES).index(security), 1, 2)
+
+
+def memo_run(name, day):
+    """A run on these securities, and a transfer in one of them, from account 1 to account 2 or back."""
+    run = Run("memo-" + name, day, MEMO_TABLES)
+
+    def sent(name, security="type-3", par=100_000, code=0, back=False, **more):
+        run.transfer(name, *((2, 1) if back else (1, 2)), list(SECURITIES).index(security), par, code, **more)
+
+    return run, sent
+
+
+def fails_before_the_memo():
+    """The end of February half a year later. Then on both sides of the memo: every security, Contract Dates, no tag, and rooms for rows
+    that all wait."""
+    for day, contracts in ((20220830, (20220101,)), (20220831, (20220101, 20220227, 20220228)), (20220901, (20220101,))):
+        _, sent = memo_run("fails-%d" % day, day)
+        for contract in contracts:
+            sent("february-contract-date-%d" % contract, "february", contract=contract)
+    for day, waiting in ((LAST_DAY, 11), (MEMO_DAY, 1), (20230201, 1)):
+        _, sent = memo_run("fails-%d" % day, day)
+        for security in SECURITIES:
+            sent(security, security, contract=20220615)
+        for contract in (20220731, 20220801, 20230101, day):
+            sent("type-4-contract-date-%d" % contract, "type-4", contract=contract)
+        sent("type-4-class-1", "type-4", contract=day, klass=1)
+        sent("type-4-class-1-contract-date-before", "type-4", contract=20220615, klass=1)
+        for security in ("type-3", "interim", "interim-behind"):
+            sent(security + "-no-tag", security)
+        sent("eleven-one-byte-short", "eleven", contract=20220615, room=35 * waiting - 1)
+        sent("eleven-exact-room", "eleven", contract=20220615, room=35 * waiting)
+
+
+def limits_before_the_memo():
+    """Limits, which are judged on both sides of the memo and used on one."""
+    for day in (LAST_DAY, MEMO_DAY):
+        _, sent = memo_run("limits-%d" % day, day)
+        for limits in (step_files.PUBLISHED, [1] * 5, [16] * 5):
+            for security in ("type-1", "type-3", "eleven"):
+                sent("%s-limit-%d" % (security, limits[0]), security, contract=20220615, limits=limits)
+        for i, broken in enumerate(step_files.BROKEN):
+            sent("broken-%d" % i, contract=20220615, limits=broken)
+        for name, start in TRACKINGS:
+            sent(name, code=start, limits=[1] * 5)
+
+
+def tags_nearly_empty():
+    """Lines by name: a tag that is empty or nearly so, and what stands beside it."""
+    opener = EMPTY_TAG[:-1]
+    firsts = {"space": mk.tag(b" "), "zero": mk.tag(b"0"), "eight-zeros": mk.tag(b"0" * 8), "eight-spaces": mk.tag(b" " * 8),
+              "two-ends": EMPTY_TAG + b"}", "a-date-behind-its-end": EMPTY_TAG + b"20220615}", "no-end": opener, "twice": EMPTY_TAG * 2,
+              "at-the-end-of-its-line": b" " * (64 - len(EMPTY_TAG)) + EMPTY_TAG, "contract-date-in-1999": mk.tag(19991231),
+              "first-date": mk.tag(ref.FIRST_DATE), "contract-date-after-the-day": mk.tag(20230131)}
+    return {name: {"line1": line} for name, line in firsts.items()} | {
+        "in-both-lines": {"line1": EMPTY_TAG, "line2": EMPTY_TAG},
+        "beside-a-date": {"line1": EMPTY_TAG, "line2": mk.tag(20220615)},
+        "end-in-line-2": {"line1": b" " * (64 - len(opener)) + opener, "line2": b"}"},
+        "opener-in-both-lines": {"line1": b" " * (65 - len(opener)) + opener[:-1], "line2": b"/}"}}
+
+
+def empty_tags():
+    """Empty tags on both sides of the memo: in either line, of each class, with codes of each kind, all in a security with rows for fails
+    and one for an interim claim; then tags that are nearly empty."""
+    for day in (LAST_DAY, MEMO_DAY):
+        _, sent = memo_run("empty-tag-%d" % day, day)
+        for line in ("line1", "line2"):
+            for klass in (0, 1):
+                for code in (0, 1, 3, 7, 9):
+                    sent("%s-class-%d-code-%d" % (line, klass, code), "interim-behind", 100_000, code, code in (3, 9), klass=klass,
+                         **{line: EMPTY_TAG})
+        for name, lines in tags_nearly_empty().items():
+            sent(name, "interim-behind", **lines)
+
+
+def codes_before_the_memo():
+    """Every code on both sides of the memo, from account 1 to account 2 and back; some with a tag."""
+    for day in (LAST_DAY, MEMO_DAY):
+        _, sent = memo_run("codes-%d" % day, day)
+        for code in range(rules.last_code + 2):
+            sent("code-%d" % code, code=code)
+            sent("code-%d-back" % code, code=code, back=True)
+        for code in (1, 3, 7, 9):
+            sent("code-%d-with-a-tag" % code, code=code, back=code in (3, 9), contract=20220615)
+
+
+def causes_beside_fifteen():
+    """Codes of loans on a day before the memo with causes that come before 15 and causes that come behind it. Then saved books with a loan,
+    on both sides of the memo."""
+    run, sent = memo_run("beside-15", LAST_DAY)
+    thousand, word = [1_000] * 16, word_of("type-3")
+    for name, code, back in (("increase", 1, False), ("decrease", 3, True)):
+        for cause, more in {
+                "on-its-piece": {"pieces": thousand}, "off-its-piece": {"par": 1_500, "pieces": thousand},
+                "no-date": {"contract": b"2022061"}, "contract-date-after-the-day": {"contract": MEMO_DAY},
+                "class-1": {"contract": 20230126, "klass": 1}, "two-tags": {"line1": EMPTY_TAG * 2}, "no-end": {"line1": EMPTY_TAG[:-1]},
+                "par-0": {"par": 0}, "class-2": {"klass": 2}, "bad-limits": {"limits": step_files.BROKEN[0]},
+                "bad-pieces": {"pieces": step_files.BROKEN_PIECES[0]}, "no-room": {"room": 0}}.items():
+            sent("%s-%s" % (name, cause), **({"par": 1_000, "code": code, "back": back} | more))
+    run.save(LAST_DAY, {word: 40_500}, 4_294_967_295)
+    sent("increase-with-a-full-count", par=1_000, code=1)
+    sent("decrease-with-a-full-count", par=1_000, code=3, back=True)
+    run.save(20230128, {word: 40_500})
+    sent("increase-on-a-closed-day", par=1_000, code=1)
+    for day in (LAST_DAY, MEMO_DAY):
+        for par in (1_000, 1_500, 40_500, 41_000, 41_500):
+            run.save(day, {word: 40_500})
+            sent("%d-decrease-of-%d" % (day, par), par=par, code=3, back=True, pieces=thousand)
+        run.save(day, {word: 9_000_000_000})
+        sent("%d-past-the-limit-on-its-piece" % day, par=1_000, code=1, pieces=thousand)
+        sent("%d-past-the-limit-off-its-piece" % day, par=1_500, code=1, pieces=thousand)
+
+
+def over_the_memo():
+    """A history that begins before the memo and goes over it and over a Record Date: the same calls on each day."""
+    run, sent = memo_run("history", LAST_DAY)
+    for day in (LAST_DAY, MEMO_DAY, 20230131, 20230201):
+        sent("%d-fail" % day, contract=20220615)
+        sent("%d-loan" % day, par=50_000, code=1)
+        sent("%d-repo" % day, par=30_000, code=7)
+        sent("%d-empty-tag" % day, line2=EMPTY_TAG)
+        sent("%d-fail-of-type-1" % day, "type-1", contract=20220615)
+        sent("%d-loan-return" % day, par=20_000, code=3, back=True)
+        sent("%d-repo-return" % day, par=10_000, code=9, back=True)
+        run.close("%d-close" % day)
+
+
+def held_before_the_memo():
+    """Saved books with a loan and a repo on days before the memo: returns, a close over a Record Date, and returns after it. The first
+    close stays before the memo, the second goes to the memo's day."""
+    run, sent = memo_run("held", 20221230)
+    for day, securities in ((20221230, ("type-1", "type-3", "outcomes")), (LAST_DAY, ("on-the-day",))):
+        places = [word_of(security) + at for security in securities for at in (0, step_files.REPO_AT)]
+        run.save(day, {place: 50_000 + place for place in places})
+        for moment in ("before", "after"):
+            for security in securities:
+                sent("%s-loan-return-%s-the-close-of-%d" % (security, moment, day), security, 10_000, 3, True)
+                sent("%s-repo-return-%s-the-close-of-%d" % (security, moment, day), security, 10_000, 9, True)
+            if moment == "before":
+                run.close("close-of-%d-one-byte-short" % day, room=35 * len(places) - 1)
+                run.close("close-of-%d" % day, room=35 * len(places))
+
+
 document_cases()
 mistakes()
 memo_fails()
@@ -405,4 +628,13 @@ repos()
 limits_on_the_cases()
 limits_by_security()
 pieces()
+memo_219_fails()
+half_years()
+fails_before_the_memo()
+limits_before_the_memo()
+empty_tags()
+codes_before_the_memo()
+causes_beside_fifteen()
+over_the_memo()
+held_before_the_memo()
 steps.write(sys.argv[2])

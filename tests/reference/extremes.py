@@ -204,10 +204,44 @@ def date_limits():
     fail("sixteen-numbers", [1] * 16, 560)
 
 
+def before_the_memo():
+    """Days before the memo of 2023: sixteen rows that wait for the last date, from the first date on until the half year has left them
+    behind, and on the last day before the memo and the memo's own, by one transfer each. Then the smallest and the largest limits."""
+    early = [ref.Row(20000102 + r, 20000102 + r, 20391231, FACTOR - r, r, 0, 0) for r in range(16)]
+    dates = (20220729, 20220730, 20220731, *range(20220801, 20220814))
+    late = [row._replace(record=date, beneficiary=date) for row, date in zip(early, dates)]
+    steps.set_tables(mk.calendar_of(lambda date: True), mk.tables_of({0: mk.security(3, 1, early), 15: mk.security(4, 4, late)}))
+
+    def fail(name, day, room, security=0, **more):
+        steps.set_book(day, 0, balances_of())
+        transfer(name, room, 0, 15, security, 100_000_000, contract=20000101, **more)
+
+    for security, day, claims in ((0, 20000101, 0), (0, 20000102, 1), (0, 20000117, 16), (0, 20000702, 16), (0, 20000703, 15),
+                                  (0, 20000717, 1), (0, 20000718, 0), (15, 20230129, 16), (15, 20230130, 1)):
+        for room in (35 * claims - 1, 35 * claims) if claims else (0,):
+            fail("%d-of-sixteen-on-%d-%d-bytes" % (claims, day, room), day, room, security)
+    for number in (1, 16, 4_294_967_295):
+        fail("sixteen-on-the-last-day-before-the-memo-limit-%d" % number, 20230129, 560, 15, limits=[number] * 5)
+    limit_before_the_memo()
+
+
+def limit_before_the_memo():
+    """A loan and a repo at the limit, with the count at its beginning and at its end, before a close over a Record Date; then on the last
+    day before the memo and the memo's own."""
+    loan, repo = (balances_of((15, 1, 2, LIMIT), start=start) for _, start in rules.kinds)
+    for day, count in ((20220728, 0), (20220728, 4_294_967_295), (20230129, 0), (20230130, 0)):
+        steps.set_book(day, count, [sum(pair) for pair in zip(loan, repo)])
+        for code, accounts in ((1, (1, 2)), (7, (1, 2)), (3, (2, 1)), (9, (2, 1))):
+            transfer("code-%d-at-the-limit-on-%d-count-%d" % (code, day, count), 0, *accounts, 15, 100_000_000, code)
+        for room in (69, 70) if day == 20220728 else ():
+            close("close-of-%d-count-%d-%d-bytes" % (day, count, room), room)
+
+
 largest_amounts()
 last_days()
 every_row()
 most_claims()
 all_waiting()
 date_limits()
+before_the_memo()
 steps.write(sys.argv[2])

@@ -4,8 +4,8 @@
 
 makes random calls by the reference's make_calls.py, some of them once more with half a book, with other limits or with other pieces, and
 writes COUNT of them to FOLDER/calls.in, with what they should give in FOLDER/calls.expected (the format is that of make_calls.py;
-crates/call_files/src/entries.rt reads it). It takes first calls that show what is wanted (step_files.wanted, REPOS, LIMITS and PIECES),
-always the one that shows most of what is left, then likewise calls that show all answers to each kind of call and all parts of wrong
+crates/call_files/src/entries.rt reads it). It takes first calls that show what is wanted (step_files.wanted, REPOS, LIMITS, PIECES and
+MEMO), always the one that shows most of what is left, then likewise calls that show all answers to each kind of call and all parts of wrong
 length, then others in their order, those with claims first; none with a large claim buffer. It prints what the calls cover, and fails where
 something that is wanted is missing.
 """
@@ -39,7 +39,11 @@ PIECES = {("pieces", "broken", *pieces) for pieces in step_files.BROKEN_PIECES} 
     "its own", "with limits", "without limits", "one less", "one more", "an increase of the balance", "the other tracking's balance",
     "the balance the other way", "left off a multiple", "largest")} | {("pieces", "off", code) for code in range(13)} | {
     ("pieces", "cleared", code) for code in DECREASES} | {("pieces", "edit before 14", n) for n in (132, 133, 135, 138, 139)}
-WANTED = step_files.wanted(NUMBERS) | REPOS | LIMITS | PIECES
+# What calls show of days before the memo of 2023 beside what streams show of them too: lists, held loans, and other causes beside 15.
+MEMO = {("before the memo", name) for name in (
+    "limits not used", "loan claimed at a close", "15 on a held balance", "15 before 8", "15 with an empty tag")} | {
+    ("before the memo", "%d before 15" % n) for n in (6, 11, 12, 13, 14, 132, 133, 135, 138, 139)}
+WANTED = step_files.wanted(NUMBERS) | REPOS | LIMITS | PIECES | MEMO
 LARGEST_BUFFER = 4096
 CANDIDATES = 40 * count
 LENGTHS = {"calendar": 480, "tables": 1824, "balances": cards.Rules(step_files.CARDS).words, "limits": 5, "pieces": 16}
@@ -99,7 +103,7 @@ def accepted_facts(call, transfer) -> set:
         facts.add(("limits", "type", kind))
     if len(found) != len(published):
         facts.add(("limits", "more" if len(found) > len(published) else "fewer", SECURITIES[place]))
-    if place == 0 and transfer.code == 0:
+    if place == 0 and transfer.code == 0 and not cards.Rules(step_files.CARDS).old(call["day"]):
         first = [first_waiting(call, transfer, numbers) for numbers in (limits, None)]
         if None not in first and first[0] != first[1]:
             facts.add(("limits", "cut among more" if first[0] < first[1] else "cut among fewer"))
@@ -260,16 +264,6 @@ def wanted_parts(facts) -> set:
     return step_files.parts_of(facts) & WANTED
 
 
-def covering(entries, part) -> list:
-    """Entries that together show what all of them show of this part of the facts."""
-    parts = {entry[0]: part(entry[3]) for entry in entries}
-    taken, left = [], set().union(*parts.values())
-    while left:
-        taken.append(max(entries, key=lambda entry: (len(parts[entry[0]] & left), -entry[0])))
-        left -= parts[taken[-1][0]]
-    return taken
-
-
 def picked() -> list:
     """(place, call, result, what it shows), in the order of their places."""
     entries = []
@@ -277,9 +271,9 @@ def picked() -> list:
         if len(call.get("buffer", b"")) <= LARGEST_BUFFER:
             result = make_calls.run(call)
             entries.append((i, call, result, shown(call, result)))
-    first = covering(entries, wanted_parts)
+    first = step_files.covering(entries, wanted_parts)
     covered = set().union(*(facts for _, _, _, facts in first))
-    first += covering(entries, lambda facts: facts - covered)
+    first += step_files.covering(entries, lambda facts: facts - covered)
     places = {entry[0] for entry in first}
     others = sorted((entry for entry in entries if entry[0] not in places), key=lambda entry: (not entry[2].claims, entry[0]))
     return sorted((first + others)[:count], key=lambda entry: entry[0])

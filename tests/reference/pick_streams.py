@@ -4,8 +4,9 @@
 
 makes random streams by the reference's make_vectors.py, and one with a loan and a repo at their limits, and writes COUNT of them to
 FOLDER/streams.in: for each the bytes of book.dat (none where it is missing), the input, and all that claimrun writes, each behind its
-length of four bytes. It takes first the streams that show something that no stream before them shows, then the smallest others. It prints
-what the streams cover, and fails where an answer that a stream can get is missing, or something else that step_files.wanted asks for.
+length of four bytes. It takes first streams that show what is wanted (WANTED), always the one that shows most of what is left for its size,
+then the smallest of those that show something that no smaller stream shows, then the smallest others. It prints what the streams cover, and
+fails where something that is wanted is missing.
 """
 import os
 import struct
@@ -21,7 +22,15 @@ ref, mk, cards, claimrun = step_files.reference_modules(folder, "reference", "ma
 # and 16 to 21 are those of calls that it does not make.
 NEVER = {11, 12, 13, 14, *range(16, 22)}
 NUMBERS = step_files.in_force(step_files.ANSWERS) - NEVER
+# What one stream shows on days before the memo of 2023, and what it shows later.
+OVER_THE_MEMO = {
+    "fail claims": ({("before the memo", "fail claim")}, {("from the memo on", "fail claim")}),
+    "loans": ({("before the memo", "15 with an increase")}, {("code", n) for n in (1, 4, 5)}),
+    "empty tags": ({("before the memo", "empty tag with code 0"), ("before the memo", "empty tag with a repo code")},
+                   {("from the memo on", "empty tag")})}
+WANTED = step_files.wanted(NUMBERS) | {("over the memo", name) for name in OVER_THE_MEMO}
 CANDIDATES = 6 * count
+OTHERS = 8                      # places kept for the smallest others; they are books that are refused
 LARGEST = 200000
 
 
@@ -47,30 +56,46 @@ def shown(book, data, expected) -> set:
     """What a stream shows."""
     direct = step_files.Direct(ref, cards)
     assert claimrun.run_bytes(book, data, direct) == expected
-    return step_files.record_facts(expected) | direct.facts
+    over = {("over the memo", name) for name, (before, later) in OVER_THE_MEMO.items() if before & direct.facts and later & direct.facts}
+    return step_files.record_facts(expected) | direct.facts | over
 
 
-with tempfile.TemporaryDirectory() as made:
-    subprocess.run([sys.executable, "-B", os.path.join(folder, "vectors", "make_vectors.py"), "--cards", str(step_files.CARDS), seed,
-                    str(CANDIDATES), made], check=True, stdout=subprocess.DEVNULL)
-    streams = [tuple(content(made, name, part) for part in ("book.dat", "input.dat", "expected.dat")) for name in sorted(os.listdir(made))]
-streams.append(at_the_limit())
-seen, first, others = set(), [], []
-for i, stream in sorted(enumerate(streams), key=lambda entry: (sum(map(len, entry[1])), entry[0])):
-    if sum(map(len, stream)) > LARGEST:
-        continue
-    facts = shown(*stream)
-    (others if facts <= seen else first).append((i, stream, facts))
-    seen |= facts
-picked = sorted((first + others)[:count], key=lambda entry: entry[0])
-covered = set().union(*(facts for _, _, facts in picked))
+def candidates() -> list:
+    """(place, stream, what it shows) for each stream that is not too large."""
+    with tempfile.TemporaryDirectory() as made:
+        subprocess.run([sys.executable, "-B", os.path.join(folder, "vectors", "make_vectors.py"), "--cards", str(step_files.CARDS), seed,
+                        str(CANDIDATES), made], check=True, stdout=subprocess.DEVNULL)
+        streams = [tuple(content(made, name, part) for part in ("book.dat", "input.dat", "expected.dat"))
+                   for name in sorted(os.listdir(made))]
+    return [(i, stream, shown(*stream)) for i, stream in enumerate(streams + [at_the_limit()]) if sum(map(len, stream)) <= LARGEST]
+
+
+def size(entry) -> int:
+    """How many bytes a stream has."""
+    return sum(map(len, entry[1]))
+
+
+def picked() -> list:
+    """Entries of candidates, in the order of their places."""
+    entries, seen, more, others = sorted(candidates(), key=lambda entry: (size(entry), entry[0])), set(), [], []
+    first = step_files.covering(entries, lambda facts: facts & WANTED, size)
+    for entry in entries:
+        if entry not in first:
+            (others if entry[2] <= seen else more).append(entry)
+        seen |= entry[2]
+    more = more[:max(0, count - len(first) - OTHERS)]
+    return sorted((first + more + others)[:count], key=lambda entry: entry[0])
+
+
+streams = picked()
+covered = set().union(*(facts for _, _, facts in streams))
 os.makedirs(out, exist_ok=True)
 with open(os.path.join(out, "streams.in"), "wb") as file:
-    for _, stream, _ in picked:
+    for _, stream, _ in streams:
         file.write(b"".join(struct.pack("<I", len(part)) + part for part in stream))
-print("%d streams, places %s" % (len(picked), " ".join(str(i) for i, _, _ in picked)))
+print("%d streams, places %s" % (len(streams), " ".join(str(i) for i, _, _ in streams)))
 for name in sorted({fact[0] for fact in covered}):
     print("%s:" % name, ", ".join("/".join(map(str, shown_by)) for shown_by in sorted(fact[1:] for fact in covered if fact[0] == name)))
-missing = sorted(step_files.wanted(NUMBERS) - covered, key=str)
-if missing or len(picked) < count:
+missing = sorted(WANTED - covered, key=str)
+if missing or len(streams) < count:
     sys.exit("missing: %s" % missing)

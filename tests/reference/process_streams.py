@@ -4,8 +4,8 @@
 
 writes FOLDER/NAME.stream for each stream: the bytes of book.dat, the input, all that claimrun writes, and the places where the input is
 cut into pieces (four bytes each), each of the four parts behind its length of four bytes. tests/claimrun/data holds the files, packed by
-gzip -9n. It fails where a claim type in force is missing, an accepted transfer of a code, a row that card 2 drops, or a paid row claimed
-behind one that waits.
+gzip -9n. It fails where a claim type in force is missing, an accepted transfer of a code, a row that card 2 drops, a paid row claimed
+behind one that waits, or something of the days before the memo of 2023 and of those from it on (MEMO).
 """
 import os
 import random
@@ -26,7 +26,12 @@ RECORD_ROOM = 65542             # the output that must be free for a record
 MOST_CLAIMS = 65536 // ref.CLAIM_SIZE
 CALENDAR = mk.weekdays()
 OPEN_DAYS = ref.open_days(CALENDAR)
-FIRST_DAY = 20240103            # where the streams with loans open; on days before 20230130 card 7 has other rules
+FIRST_DAY = 20240103            # where the streams with loans open
+OLD_DAY = 20221201              # where the stream opens that goes over the memo of 2023
+# What streams show of the days before the memo and of those from it on: memo_facts in step_files.
+MEMO = {("before the memo", name) for name in (
+    "fail claim", "row before X", "types 1 and 2", "15 with an increase", "15 with a decrease", "empty tag with code 0",
+    "repo claimed at a close")} | {("from the memo on", name) for name in ("fail claim", "empty tag")}
 FAIL_CLAIMS = 6                 # the most claims of a failed transfer of type 1 or 2 with monthly rows
 shown = set()                   # what the streams show
 
@@ -113,23 +118,24 @@ def fill_points(name, offsets):
     store(name, mk.book_bytes(CALENDAR, tables, days[0]), b"".join(pieces), places(pieces), tallied=False)
 
 
-def some_transfer(dice, day: int, securities: int) -> bytes:
-    """A failed transfer, a loan or a repo or its return, or another transfer; some are refused."""
+def some_transfer(dice, day: int, securities: int, days: int = 60) -> bytes:
+    """A failed transfer with a Contract Date up to this many open days ago, a loan or a repo or its return, or another transfer; some are
+    refused."""
     sender, receiver = dice.choice(PAIRS[:40])
     security, par = dice.randrange(securities), dice.choice((1, 500, 40_000, dice.randrange(1, 100_000_001)))
     style = dice.randrange(8)
     if style < 3:
-        at = OPEN_DAYS.index(day) - dice.randrange(-1, 60)
+        at = OPEN_DAYS.index(day) - dice.randrange(-1, days)
         return mk.transfer(sender, receiver, security, par, contract=OPEN_DAYS[at], klass=int(style == 0))
     if style == 3:
         return mk.transfer(sender, receiver, security, par)
     return mk.transfer(sender, receiver, security, par, code=dice.choice(STARTS) + dice.choice((0, 0, 3, 4, 1, 2, 5)))
 
 
-def monthly_tables(dice, securities: int) -> list:
-    """Securities of all types with a row for each month from October 2023 on: its Beneficiary Date is up to 12 days into the month, and its
+def monthly_tables(dice, securities: int, year: int, month: int) -> list:
+    """Securities of all types with a row for each month from this one on: its Beneficiary Date is up to 12 days into the month, and its
     Payment Date two weeks into the same month or one of the next three."""
-    months = [20231001, 20231101, 20231201] + [year + 100 * m for year in (20240001, 20250001) for m in range(1, 13)]
+    months = [10000 * (year + m // 12) + 100 * (m % 12 + 1) + 1 for m in range(month - 1, month + 17)]
 
     def rows():
         return [ref.Row(m + dice.randrange(3), m + dice.randrange(12), months[i + dice.randrange(4)] + 14, dice.randrange(10_000_000),
@@ -157,14 +163,15 @@ def buffer_ends():
             records.append(mk.close() if size == CLOSE_SIZE else some_transfer(dice, days[day], 8))
             day += size == CLOSE_SIZE
         first = cut
-    book = mk.book_bytes(CALENDAR, monthly_tables(dice, 8), days[0])
+    book = mk.book_bytes(CALENDAR, monthly_tables(dice, 8, 2023, 10), days[0])
     store("buffer-ends", book, b"".join(records), [], tallied=False)
 
 
 def many_reads():
-    """Loans, repos, failed transfers and closes in more than 1,000 pieces, cut anywhere and often behind the first bytes of a record."""
+    """Loans, repos, failed transfers, empty tags and closes, from a day before the memo on and over it, in more than 1,000 pieces, cut
+    anywhere and often behind the first bytes of a record."""
     dice = random.Random("many-reads")
-    days = days_from(FIRST_DAY)
+    days = days_from(OLD_DAY)
     data, cuts, day = b"", set(), 0
     for _ in range(640):
         start = len(data)
@@ -172,10 +179,11 @@ def many_reads():
             data += mk.close()
             day += 1
         else:
-            data += some_transfer(dice, days[day], 4)
+            data += some_transfer(dice, days[day], 4, 200) if dice.random() < 0.9 else mk.transfer(
+                *dice.choice(PAIRS), dice.randrange(4), 1_000, contract=b"")
         size = len(data) - start
         cuts |= {start + cut for cut in (dice.choice((1, 2, 3)), dice.randrange(size), size) if dice.random() < 0.75}
-    book = mk.book_bytes(CALENDAR, monthly_tables(dice, 4), days[0])
+    book = mk.book_bytes(CALENDAR, monthly_tables(dice, 4, 2022, 4), days[0])
     store("many-reads", book, data, sorted(cuts - {0, len(data)}))
 
 
@@ -199,6 +207,6 @@ buffer_ends()
 many_reads()
 closed_opening_day()
 wanted = {("type", n) for n in step_files.in_force(step_files.CLAIM_TYPES)} | {("waiting", "dropped"), ("waiting", "paid kept behind")} | {
-    ("code", n) for n in range(rules.last_code + 1)}
+    ("code", n) for n in range(rules.last_code + 1)} | MEMO
 missing = sorted(wanted - shown - {("type", fact[1]) for fact in shown if fact[0] == "claim"})
 sys.exit("missing: %s" % missing if missing else 0)

@@ -8,7 +8,7 @@ import os
 import struct
 import sys
 
-CARDS = 6                       # the last of document 02's cards in force that changes an answer
+CARDS = 7                       # the last of document 02's cards in force that changes an answer
 # The kinds of steps: the calls, as in files of calls, and what sets calendar and tables or the book.
 OPEN, TRANSFER, CLOSE, LENT_TRANSFER = range(4)
 TABLES, BOOK = 128, 129
@@ -49,7 +49,15 @@ CODES = {("code", n): 3 if n > 6 else 0 for n in range(13)} | {("refused code", 
 # Closes: a loan and a repo of the same two accounts in one row; a repo before a loan of a later row; a loan before a repo of an earlier
 # lender; room for the loans but not for the repos.
 CLOSES = {("close", name): 3 for name in ("same two accounts", "row by row", "loans first", "room for loans alone")}
-SHOWN = CLAIMS | TOGETHER | WAITING | TRACKED | CODES | CLOSES
+# Days before the memo of 2023 and days from it on. X is the same day six months earlier. Before the memo: rows that are claimed and rows
+# that are not, 15, and empty tags that are taken for the day; from it on: an empty tag that is refused, and claims that the rule of the
+# days before would not give.
+MEMO = {("before the memo", name): 7 for name in (
+    "fail claim", "more than seven", "two that wait", "row on X", "row on X in a shorter month", "row before X", "X before 2000",
+    "types 1 and 2", "15 with an increase", "15 with a decrease", "15 before 7", "empty tag with code 0", "empty tag with a repo code",
+    "empty tag with class 1", "empty tag and no fail claim", "empty tag and an interim claim", "repo claimed at a close")} | {
+    ("from the memo on", name): 7 for name in ("fail claim", "on its first day", "C before the memo", "empty tag")}
+SHOWN = CLAIMS | TOGETHER | WAITING | TRACKED | CODES | CLOSES | MEMO
 
 
 def in_force(table) -> set:
@@ -65,6 +73,17 @@ def wanted(numbers) -> set:
 def parts_of(facts) -> set:
     """Facts in the form in which wanted asks for them: answers to whatever call."""
     return {("answer", fact[-1]) if fact[0] == "answer" else fact for fact in facts}
+
+
+def covering(entries, part, size=lambda entry: 1) -> list:
+    """Entries that together show what all of them show of this part of the facts, always the one that shows most of what is left for its
+    size. An entry begins with its place and ends with what it shows."""
+    parts = {entry[0]: part(entry[-1]) for entry in entries}
+    taken, left = [], set().union(*parts.values())
+    while left:
+        taken.append(max(entries, key=lambda entry: (len(parts[entry[0]] & left) / size(entry), -entry[0])))
+        left -= parts[taken[-1][0]]
+    return taken
 
 
 def claim_facts(claims) -> set:
@@ -112,12 +131,81 @@ def waiting_facts(cards, tables, day: int, transfer, limits=None) -> set:
     return {("waiting", name) for name, holds in shown.items() if holds}
 
 
+def rows_since(cards, tables, day: int, security: int, contract: int) -> list:
+    """The rows with a Beneficiary Date after the Contract Date and not after the day."""
+    return [row for _, row in cards.Rules(1).fail_rows(tables, security, day, contract, [16] * 5)]
+
+
+def half_year_facts(cards, call, transfer) -> set:
+    """What an accepted transfer with a tag and without a code shows of the half year before its day."""
+    rules, tables, day, limits = cards.Rules(CARDS), call["tables"], call["day"], call.get("limits")
+    contract, first = rules.contract(transfer, day), cards.six_months_before(day)
+    claimed = [row for _, row in rules.fail_rows(tables, transfer.security, day, contract, limits)]
+    since = rows_since(cards, tables, day, transfer.security, contract)
+    is_mbs = tables[114 * transfer.security] in cards.MBS
+    half_year = [row for row in since if first <= row.beneficiary]
+    if not rules.old(day):
+        differs = claimed != (half_year if is_mbs else [])
+        shown = {"fail claim": claimed, "on its first day": differs and day == cards.MEMO_DAY,
+                 "C before the memo": differs and contract < cards.MEMO_DAY}
+        return {("from the memo on", name) for name, holds in shown.items() if holds}
+    on_first = any(row.beneficiary == first for row in claimed)
+    shown = {"fail claim": claimed,
+             "more than seven": len(claimed) > 7,
+             "two that wait": sum(row.payment > day for row in claimed) > 1,
+             "row on X": on_first,
+             "row on X in a shorter month": on_first and first % 100 < day % 100,
+             "row before X": is_mbs and half_year != since,
+             "X before 2000": claimed and first < 20000101,
+             "types 1 and 2": not is_mbs and half_year,
+             "limits not used": limits and len(claimed) > limits[0]}
+    return {("before the memo", name) for name, holds in shown.items() if holds}
+
+
+def empty_tag_facts(cards, call, result, transfer) -> set:
+    """What a transfer with an empty tag shows: taken for the day before the memo, no date from it on."""
+    rules, day = cards.Rules(CARDS), call["day"]
+    if not rules.old(day):
+        return {("from the memo on", "empty tag")} if result.number == 135 else set()
+    if result.number == 15:
+        return {("before the memo", "15 with an empty tag")}
+    if result.number:
+        return set()
+    earlier = transfer.code == 0 and rules.fail_rows(call["tables"], transfer.security, day, 0, None)
+    shown = {"with code 0": transfer.code == 0, "with a repo code": transfer.code, "with class 1": transfer.klass,
+             "and no fail claim": earlier, "and an interim claim": result.claims}
+    return {("before the memo", "empty tag " + name) for name, holds in shown.items() if holds}
+
+
+def no_lending_facts(ref, cards, call, result, transfer) -> set:
+    """What a transfer with a code from 1 to 6 on a day before the memo shows: 15, or an answer that comes before it."""
+    if result.number != 15:
+        return {("before the memo", "%d before 15" % result.number)}
+    word, step = cards.Rules(CARDS).move(transfer)
+    held, par = call["balances"][word], transfer.par
+    shown = {"with an increase": step > 0, "with a decrease": step < 0, "before 7": step < 0 and held < par,
+             "before 8": step > 0 and held + par > ref.LARGEST_BALANCE, "on a held balance": step < 0 and par <= held}
+    return {("before the memo", "15 " + name) for name, holds in shown.items() if holds}
+
+
+def memo_facts(ref, cards, call, result, transfer) -> set:
+    """What a transfer shows of the days before the memo and of those from it on."""
+    rules, facts = cards.Rules(CARDS), set()
+    if rules.tag(transfer) == b"":
+        facts |= empty_tag_facts(cards, call, result, transfer)
+    if rules.old(call["day"]) and 1 <= transfer.code <= 6:
+        facts |= no_lending_facts(ref, cards, call, result, transfer)
+    if result.number == 0 and transfer.code == 0 and rules.contract(transfer, call["day"]) is not None:
+        facts |= half_year_facts(cards, call, transfer)
+    return facts
+
+
 def transfer_facts(ref, cards, call, result, answer) -> set:
     """What a transfer shows. call: its arguments by name; answer: its number with some of them changed."""
     unread, transfer = ref.read_record(ref.TRANSFER, call["message"])
     if unread or result.number in range(1, 6):
         return set()
-    rules, facts = cards.Rules(CARDS), set()
+    rules, facts = cards.Rules(CARDS), memo_facts(ref, cards, call, result, transfer)
     kind = "repo" if transfer.code > 6 else "loan"
 
     def with_code(code) -> bytes:
@@ -156,7 +244,10 @@ def close_facts(ref, cards, call, result, answer) -> set:
              "row by row": above(lambda claim: claim.security, lambda claim: claim.row),
              "loans first": above(lambda claim: (claim.security, claim.row), lambda claim: claim.payee),
              "room for loans alone": result.number == 10 and answer(balances=call["balances"][:REPO_AT] + [0] * REPO_AT) == 0}
-    return {("close", name) for name, holds in shown.items() if holds}
+    before = cards.Rules(CARDS).old(call["day"])
+    claimed = {"loan": loans, "repo": repos}
+    return {("close", name) for name, holds in shown.items() if holds} | {
+        ("before the memo", kind + " claimed at a close") for kind, found in claimed.items() if before and found}
 
 
 def reference_modules(folder, *names) -> list:
