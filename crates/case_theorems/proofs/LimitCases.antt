@@ -14,8 +14,7 @@ use Rattle.history.specs.Calls.{Call}
 use Rattle.history.specs.Results.{opened, runFrom}
 use Rattle.history.specs.Owed.{owed}
 use Rattle.history.specs.Statement.{recordsIn, paid, ofRow, ofAll}
-use Rattle.history.proofs.Rows.{tagLine, blank, sent, zeros, sevens, entries, counted, sameNumbers, senderToReceiver, openedRows}
-use Rattle.history.proofs.LimitRows.{lent}
+use Rattle.history.proofs.Rows.{tagLine, blank, sent, lent, zeros, sevens, entries, counted, sameNumbers, senderToReceiver, openedRows}
 use Rattle.case_theorems.proofs.RepoCases.{kept}
 
 failed : Call
@@ -53,5 +52,5 @@ history =
     && pays ofAll 1200000
 
 history-holds : history ≡ true
-unfolding openedRows lent failed calls kept numbers senderToReceiver entries counted sameNumbers history
+unfolding openedRows failed calls kept numbers senderToReceiver entries counted sameNumbers history
 history-holds = refl

@@ -14,7 +14,7 @@ use Rattle.history.specs.Results.{opened, run, runFrom}
 use Rattle.history.specs.Owed.{owed}
 use Rattle.history.specs.Statement.{recordsIn, paid, ofRow, ofAll}
 use Rattle.history.proofs.Rows.{blank, sent, closing, zeros, held, sevens, entries, counted, sameNumbers, senderToReceiver, borrowerToLender, openedRows}
-use Rattle.history.proofs.MemoRows.{overTables, failed}
+use Rattle.case_theorems.proofs.MemoRows.{overTables, failed}
 
 -- ---- over the memo's day
 

@@ -15,9 +15,8 @@ use Rattle.history.specs.Calls.{Call}
 use Rattle.history.specs.Results.{opened, runFrom}
 use Rattle.history.specs.Owed.{owed}
 use Rattle.history.specs.Statement.{recordsIn, paid, ofAll}
-use Rattle.history.proofs.Rows.{tagLine, blank, sent, closing, zeros, sevens, entries, counted, sameNumbers, senderToReceiver, borrowerToLender, openedRows}
-use Rattle.history.proofs.LimitRows.{lent}
-use Rattle.history.proofs.PieceRows.{inPieces, thousands}
+use Rattle.history.proofs.Rows.{tagLine, blank, sent, lent, inPieces, closing, zeros, sevens, entries, counted, sameNumbers, senderToReceiver, borrowerToLender, openedRows}
+use Rattle.case_theorems.proofs.PieceRows.{thousands}
 
 -- ---- the accepted calls
 
@@ -79,5 +78,5 @@ history =
     && pays senderToReceiver 100250
 
 history-holds : history ≡ true
-unfolding openedRows lent inPieces thousands loan most repo whole failed rest calls numbers senderToReceiver borrowerToLender entries counted sameNumbers history
+unfolding openedRows thousands loan most repo whole failed rest calls numbers senderToReceiver borrowerToLender entries counted sameNumbers history
 history-holds = refl

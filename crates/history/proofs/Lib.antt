@@ -8,10 +8,6 @@ pub mod Payments
 pub mod Once
 pub mod Theorem
 pub mod Rows
-pub mod RepoRows
-pub mod LimitRows
-pub mod PieceRows
-pub mod MemoRows
 pub mod Answers
 pub mod StaysSound
 pub mod Continuation

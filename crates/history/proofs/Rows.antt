@@ -52,6 +52,10 @@ openTag = line (take 18 (tag 20230315))
 badTag : List ℕ
 badTag = line (tag 20230230)
 
+-- a tag whose } stands straight after its opener
+emptyTag : List ℕ
+emptyTag = line (take 10 (tag 20230315) ++ (125 ∷ []))
+
 -- a transfer by its kind, sender, receiver, security, class, code, par, first line and the size of its claim buffer
 unfoldable pub sent : ℕ → ℕ → ℕ → ℕ → ℕ → ℕ → ℕ → List ℕ → ℕ → Call
 sent kind sender receiver security class code par first room =
@@ -60,6 +64,15 @@ sent kind sender receiver security class code par first room =
           ++ (first ++ blank);
       buffer = replicate room 0;
     })
+
+-- a transfer that is lent limits, and one that is lent pieces
+unfoldable pub lent : List ℕ → Call → Call
+lent limits (transfer a) = transfer (record { message = a .message; buffer = a .buffer; limits = limits; pieces = a .pieces })
+lent limits (close a) = close a
+
+unfoldable pub inPieces : List ℕ → Call → Call
+inPieces pieces (transfer a) = transfer (record { message = a .message; buffer = a .buffer; limits = a .limits; pieces = pieces })
+inPieces pieces (close a) = close a
 
 unfoldable pub closing : ℕ → ℕ → Call
 closing kind room = close (record { message = 2 ∷ 0 ∷ kind ∷ 0 ∷ []; buffer = replicate room 0 })
@@ -180,6 +193,16 @@ rows =
     row weekdays delays 20230705 0 zeros (sent 1 1 2 0 0 0 100000 (tagLine 20230315) 104) 10
     ∷  -- room for the three
     row weekdays delays 20230705 0 zeros (sent 1 1 2 0 0 0 100000 (tagLine 20230315) 105) 0
+    ∷  -- limits before pieces, pieces before the day
+    row weekdays caseTables 20230404 0 zeros (lent [] (inPieces [] (sent 1 1 2 0 0 0 200000 (tagLine 20230315) 35))) 12
+    ∷ row weekdays caseTables 20230401 0 zeros (inPieces [] (sent 1 1 2 0 0 0 200000 (tagLine 20230315) 35)) 13
+    ∷  -- count before piece
+    row weekdays caseTables 20230404 4294967295 zeros (inPieces (replicate 16 1000) (sent 1 1 2 0 0 1 1500 blank 0)) 11
+    ∷  -- before the 2023 memo: piece before lending, lending before balance; an empty tag, and from the memo on
+    row weekdays caseTables 20230127 0 zeros (inPieces (replicate 16 1000) (sent 1 1 2 0 0 3 1500 blank 0)) 14
+    ∷ row weekdays caseTables 20230127 0 zeros (sent 1 1 2 0 0 3 1500 blank 0) 15
+    ∷ row weekdays caseTables 20230127 0 zeros (sent 1 1 2 0 1 0 1500 emptyTag 0) 0
+    ∷ row weekdays caseTables 20230130 0 zeros (sent 1 1 2 0 1 0 1500 emptyTag 0) 135
     ∷  -- no claims need no room
     row weekdays caseTables 20230404 0 zeros (sent 1 1 2 0 0 5 200000 (tagLine 20230315) 0) 0
     ∷  -- a close
@@ -354,7 +377,7 @@ periods =
 
 -- what the theorems open
 unfoldable pub openedRows : ℕ
-unfolding openedHistory tag line tagLine blank twoTags openTag badTag sent closing zeros sevens
+unfolding openedHistory tag line tagLine blank twoTags openTag badTag emptyTag sent lent inPieces closing zeros sevens
 openedRows = 0
 
 rows-hold : openings && all numbered rows ≡ true

@@ -10,10 +10,9 @@ use Rattle.securities.specs.Lent.{ones}
 use Rattle.securities.proofs.LentRows.{five}
 use Rattle.claims.proofs.DelayRows.{monthly}
 use Rattle.claims.proofs.MemoRows.{overMemo, emptyLine}
 use Rattle.history.specs.Calls.{Call}
-use Rattle.history.proofs.Rows.{tag, line, tagLine, blank, sent, closing, zeros, held, CauseRow, row, numbered, openedRows}
-use Rattle.history.proofs.LimitRows.{lent}
-use Rattle.history.proofs.PieceRows.{inPieces, thousands}
+use Rattle.history.proofs.Rows.{tag, line, tagLine, blank, sent, lent, inPieces, closing, zeros, held, CauseRow, row, numbered, openedRows}
+use Rattle.case_theorems.proofs.PieceRows.{thousands}
 
 -- security 0 is MBS and security 1 a Treasury, both with rows of the first of July 2022 to February 2023
 unfoldable pub overTables : List ℕ
@@ -95,5 +94,5 @@ rows =
     ∷ []
 
 rows-hold : all numbered rows ≡ true
-unfolding openedRows numbered held lent inPieces thousands overMemo overTables emptyLine onDay failed coded back rows
+unfolding openedRows numbered held thousands overMemo overTables emptyLine onDay failed coded back rows
 rows-hold = refl

@@ -9,14 +9,8 @@ use Rattle.days.specs.Weekdays.{weekdays}
 use Rattle.securities.specs.Cases.{caseTables}
 use Rattle.securities.specs.Lent.{ones}
 use Rattle.securities.proofs.LentRows.{five}
-use Rattle.history.specs.Calls.{Call, transfer, close}
-use Rattle.history.proofs.Rows.{tagLine, blank, sent, closing, zeros, CauseRow, row, numbered, openedRows}
-use Rattle.history.proofs.LimitRows.{lent}
-
--- a transfer, lent pieces
-unfoldable pub inPieces : List ℕ → Call → Call
-inPieces pieces (transfer a) = transfer (record { message = a .message; buffer = a .buffer; limits = a .limits; pieces = pieces })
-inPieces pieces (close a) = close a
+use Rattle.history.specs.Calls.{Call}
+use Rattle.history.proofs.Rows.{tagLine, blank, sent, lent, inPieces, closing, zeros, CauseRow, row, numbered, openedRows}
 
 -- security 0 comes in pieces of 1,000
 unfoldable pub thousands : List ℕ
@@ -96,5 +90,5 @@ rows =
     ∷ []
 
 rows-hold : all numbered rows ≡ true
-unfolding openedRows numbered lent inPieces thousands odd onFourth failed back start rows
+unfolding openedRows numbered thousands odd onFourth failed back start rows
 rows-hold = refl

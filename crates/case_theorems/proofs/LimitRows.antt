@@ -8,13 +8,8 @@ use Rattle.lists.specs.All.{all}
 use Rattle.days.specs.Weekdays.{weekdays}
 use Rattle.securities.specs.Cases.{caseTables}
 use Rattle.securities.proofs.LentRows.{five}
-use Rattle.history.specs.Calls.{Call, transfer, close}
-use Rattle.history.proofs.Rows.{tagLine, blank, sent, closing, zeros, held, CauseRow, row, numbered, openedRows}
-
--- a transfer, lent limits
-unfoldable pub lent : List ℕ → Call → Call
-lent limits (transfer a) = transfer (record { message = a .message; buffer = a .buffer; limits = limits; pieces = a .pieces })
-lent limits (close a) = close a
+use Rattle.history.specs.Calls.{Call}
+use Rattle.history.proofs.Rows.{tagLine, blank, sent, lent, closing, zeros, held, CauseRow, row, numbered, openedRows}
 
 -- 400,000 from account 1 to account 2, with room
 failed : ℕ → Call
