@@ -1,5 +1,5 @@
 -- Document 01, section Loans, and document 02, card 3: what a transfer does to the par on loan and on repo; card 6: which par may be
--- sent; card 7: from which day on lending is.
+-- sent; card 7: the days before lending.
 use mathlib.Core.Bool.{Bool, false, cond, not, _&&_, _||_}
 use mathlib.Core.List.{List, [], _∷_}
 use Prim.Native.Nat.{ℕ, _+_, _-_, _%_}

@@ -14,7 +14,8 @@ use Rattle.history.specs.Calls.{Call}
 use Rattle.history.specs.Results.{opened, runFrom}
 use Rattle.history.specs.Owed.{owed}
 use Rattle.history.specs.Statement.{recordsIn, paid, ofRow, ofAll}
-use Rattle.history.proofs.Rows.{tagLine, blank, sent, lent, zeros, sevens, entries, counted, sameNumbers, senderToReceiver, openedRows}
+use Rattle.history.proofs.Rows.{tagLine, blank, sent, lent, zeros, sevens, openedRows}
+use Rattle.history.proofs.ListRows.{entries, counted, sameNumbers, senderToReceiver}
 use Rattle.case_theorems.proofs.RepoCases.{kept}
 
 failed : Call

@@ -13,7 +13,8 @@ use Rattle.history.specs.Calls.{Call}
 use Rattle.history.specs.Results.{opened, run, runFrom}
 use Rattle.history.specs.Owed.{owed}
 use Rattle.history.specs.Statement.{recordsIn, paid, ofRow, ofAll}
-use Rattle.history.proofs.Rows.{blank, sent, closing, zeros, held, sevens, entries, counted, sameNumbers, senderToReceiver, borrowerToLender, openedRows}
+use Rattle.history.proofs.Rows.{blank, sent, closing, zeros, held, sevens, openedRows}
+use Rattle.history.proofs.ListRows.{entries, counted, sameNumbers, senderToReceiver, borrowerToLender}
 use Rattle.case_theorems.proofs.MemoRows.{overTables, failed}
 
 -- ---- over the memo's day

@@ -15,7 +15,8 @@ use Rattle.history.specs.Calls.{Call}
 use Rattle.history.specs.Results.{opened, runFrom}
 use Rattle.history.specs.Owed.{owed}
 use Rattle.history.specs.Statement.{recordsIn, paid, ofAll}
-use Rattle.history.proofs.Rows.{tagLine, blank, sent, lent, inPieces, closing, zeros, sevens, entries, counted, sameNumbers, senderToReceiver, borrowerToLender, openedRows}
+use Rattle.history.proofs.Rows.{tagLine, blank, sent, lent, inPieces, closing, zeros, sevens, openedRows}
+use Rattle.history.proofs.ListRows.{entries, counted, sameNumbers, senderToReceiver, borrowerToLender}
 use Rattle.case_theorems.proofs.PieceRows.{thousands}
 
 -- ---- the accepted calls

@@ -13,7 +13,8 @@ use Rattle.history.specs.Calls.{Call}
 use Rattle.history.specs.Results.{Answer, opened, runFrom}
 use Rattle.history.specs.Owed.{owed}
 use Rattle.history.specs.Statement.{recordsIn, paid, ofTypeAndRow, ofAll}
-use Rattle.history.proofs.Rows.{blank, sent, closing, zeros, sevens, entries, counted, sameNumbers, borrowerToLender, openedRows}
+use Rattle.history.proofs.Rows.{blank, sent, closing, zeros, sevens, openedRows}
+use Rattle.history.proofs.ListRows.{entries, counted, sameNumbers, borrowerToLender}
 
 -- ---- a list with both
 

@@ -57,6 +57,12 @@ module _ (tables limits : List ℕ) (day : ℕ) (t : Transfer) (tag : Tag) where
   abbrev rows : List Row
   rows = filledRows tables (t .security)
 
+  abbrev type : ℕ
+  type = typeOf (securityOf tables (t .security))
+
+  abbrev maximum : ℕ
+  maximum = maximumOf tables limits (t .security)
+
   -- an eligible row by the rule that the day chooses
   unfoldable pub isEligibleOn : Row → Bool
   isEligibleOn row =
@@ -71,12 +77,6 @@ module _ (tables limits : List ℕ) (day : ℕ) (t : Transfer) (tag : Tag) where
   unfolding eligible eligibleNow isEligibleOn
   eligible-rows e = go (beforeMemo day)
     where
-      type : ℕ
-      type = typeOf (securityOf tables (t .security))
-
-      maximum : ℕ
-      maximum = maximumOf tables limits (t .security)
-
       go : (b : Bool)
           → cond b (eligibleBefore type (contractDate tag) day rows) (cut type day (eligibleIn maximum (contractDate tag) day rows))
           ≡ select (λ row. cond b (isEligibleBefore type (contractDate tag) day row) (isKept type maximum (contractDate tag) day rows row)) rows
@@ -88,12 +88,6 @@ module _ (tables limits : List ℕ) (day : ℕ) (t : Transfer) (tag : Tag) where
   unfolding isEligibleOn
   eligible-reached row = go (beforeMemo day)
     where
-      type : ℕ
-      type = typeOf (securityOf tables (t .security))
-
-      maximum : ℕ
-      maximum = maximumOf tables limits (t .security)
-
       go : (b : Bool) → cond b (isEligibleBefore type (contractDate tag) day row) (isKept type maximum (contractDate tag) day rows row) ≡ true
           → row .beneficiaryDate ≤ day
       go true h = before-words type (contractDate tag) day row .0 h .3

@@ -14,6 +14,7 @@ pub mod RepoRows
 pub mod Making
 pub mod TableRows
 pub mod Runs
+pub mod Leading
 pub mod Reached
 pub mod RowLoops
 pub mod Turns

@@ -19,7 +19,7 @@ use Rattle.claims.specs.Amounts.{failType, interimType, Parties, claimOn
 unfoldable pub messageTag : List ℕ → Tag
 messageTag m = tagOf (firstLine m) (secondLine m)
 
--- The same as the book's day takes it.
+-- The tag of a transfer message as the book's day takes it (document 02, card 7).
 unfoldable pub contractTag : ℕ → List ℕ → Tag
 contractTag day m = onDay day (messageTag m)
 

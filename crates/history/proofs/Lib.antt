@@ -8,6 +8,7 @@ pub mod Payments
 pub mod Once
 pub mod Theorem
 pub mod Rows
+pub mod ListRows
 pub mod Answers
 pub mod StaysSound
 pub mod Continuation
