@@ -9,9 +9,11 @@ use lib.ListN.{length, drop, replicate, length-replicate, replicate-append-repli
 use lib.Seq.{drop-at}
 use borrow.Author.Tests.{eqb-true, not-false}
 use Rattle.lists.specs.Tests.{or-false-left, or-false-right}
-use Rattle.lists.specs.First.{firstOf, numbered, appliesAt, cleared}
+use Rattle.lists.specs.First.{firstOf, numbered, appliesAt, cleared, skip, none}
+use Rattle.days.specs.Days.{badCalendar}
 use Rattle.book.specs.declared.Book.{Book}
-use Rattle.book.specs.Soundness.{stateCauses, carryCauses}
+use Rattle.book.specs.Soundness.{badDay, badBalances, stateCauses, carryCauses}
+use Rattle.book.proofs.Causes.{carry-state}
 use Rattle.history.specs.Results.{leftOpen}
 use Rattle.carry_over.specs.CarriedOver.{widened, carryNumber, carriedFor, carried}
 
@@ -40,6 +42,29 @@ module _ (calendar : List ℕ) (book : Book) (saved balances : List ℕ) where
   -- room for the saved words, also when all words have been cleared
   pub saved-fits : (n words : ℕ) → n ≡ carryNumber calendar book saved balances → n ≡ 0 → words ≡ length balances → length saved ≤ words
   saved-fits n words e z l = omega (arith, saved-words (sym e ∙ z), filled-words (sym e ∙ z))
+
+  -- ---- the number
+
+  -- it is 0 where lengths, calendar, day and saved balances are right
+  pub carry-clear : length calendar ≡ 480 → length saved ≡ 4096 → length balances ≡ 8192 → badCalendar calendar ≡ false
+      → (badDay calendar (book .day) || badBalances saved) ≡ false → carryNumber calendar book saved balances ≡ 0
+  unfolding carryNumber stateCauses
+  carry-clear a b c d f = sym (carry-state calendar (book .day) saved balances a b c d (skip 4 _ f none))
+
+  number-for : (n : ℕ) → carriedFor n book saved balances .number ≡ n
+  unfolding carriedFor
+  number-for zero = refl
+  number-for (suc n) = refl
+
+  pub number-is : carried calendar book saved balances .number ≡ carryNumber calendar book saved balances
+  unfolding carried
+  number-is = number-for (carryNumber calendar book saved balances)
+
+  -- accepted, the book is the one given and the balances are the saved ones with repo empty
+  pub carried-is : carried calendar book saved balances .number ≡ 0
+      → carried calendar book saved balances ≡ record { number = 0; book = book; balances = widened saved }
+  unfolding carried carriedFor
+  carried-is z = ap (λ (n : ℕ). carriedFor n book saved balances) (sym number-is ∙ z)
 
   -- ---- the answers
 

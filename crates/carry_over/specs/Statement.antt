@@ -15,7 +15,7 @@ use Rattle.records.specs.MessageRecords.{transferOf}
 use Rattle.book.specs.declared.Book.{Book}
 use Rattle.book.specs.Book.{balanceWords, trackingWords}
 use Rattle.history.specs.Calls.{Call, transfer, close}
-use Rattle.history.specs.Results.{Run, run, runFrom}
+use Rattle.history.specs.Results.{Run, run, followedBy, runFrom}
 use Rattle.history.specs.Ledger.{Ledger, started, judged}
 use Rattle.history.specs.Statement.{AgreesWithLedger}
 use Rattle.history.specs.Continuation.{GoesOn, Period, AllGoOn}
@@ -50,14 +50,10 @@ EveryLaterList = (calendar : List ℕ) (book : Book) (saved balances : List ℕ)
 
 -- ---- histories on both sides of the move
 
--- What the calls before the move and those after it answer, and what the last one leaves.
-unfoldable pub together : Run → Run → Run
-together before after = record { answers = before .answers ++ after .answers; book = after .book; balances = after .balances }
-
 pub record CountsBothSides (calendar tables : List ℕ) (day : ℕ) (before after : List Call) (balances : List ℕ) (r : Run) : Type 0 where
   pub accepted : carried calendar (r .book) (r .balances) balances .number ≡ 0
   pub agrees : AgreesWithLedger calendar tables day (before ++ after)
-      (together r (runFrom calendar tables (carried calendar (r .book) (r .balances) balances) after))
+      (followedBy r (runFrom calendar tables (carried calendar (r .book) (r .balances) balances) after))
       (judged calendar tables (started day) (before ++ after))
 
 -- The balances that the move fills may hold anything.
