@@ -93,7 +93,7 @@ module _ (calendar tables : List ℕ) (book : Book) (balances : List ℕ) (z : f
 
 -- ---- an opening
 
-good-zeros : (n w : ℕ) → goodBalancesFrom w (replicate n 0) ≡ true
+pub good-zeros : (n w : ℕ) → goodBalancesFrom w (replicate n 0) ≡ true
 unfolding goodBalancesFrom goodBalance
 good-zeros zero w = refl
 good-zeros (suc n) w = and-both (or-zero (position w)) (good-zeros n (suc w))
