@@ -164,9 +164,11 @@ all-carry-on (p ∷ before) ledger k book saved b l e n move balances after =
     let now : GoesOn (p .calendar) (p .tables) ledger (p .calls) (run (p .calendar) (p .tables) book (widened saved) (p .calls)) j =
     rw (b, l) (every-continuation (p .calendar) (p .tables) ledger k (p .calls)) in
     let g : GoesOn (p .calendar) (p .tables) ledger (p .calls) (withRepoEmpty r) j =
-    subst (λ (x : Run). GoesOn (p .calendar) (p .tables) ledger (p .calls) x j) (every-lending-list (p .calendar) (p .tables) book saved e (p .calls) (n .0)) now in
-    (g, all-carry-on before (j .ledger) (g .sound) (r .book) (r .balances) (g .book) (g .balances)
-    (run-words (p .calendar) (p .tables) (p .calls) book saved e) (n .1) move balances after)
+    subst (λ (x : Run). GoesOn (p .calendar) (p .tables) ledger (p .calls) x j) (every-lending-list (p .calendar) (p .tables) book saved e (p .calls) (n .0)) now in (
+      g,
+      all-carry-on before (j .ledger) (g .sound) (r .book) (r .balances) (g .book) (g .balances)
+          (run-words (p .calendar) (p .tables) (p .calls) book saved e) (n .1) move balances after,
+    )
 
 pub every-carried-period : EveryCarriedPeriod
 every-carried-period calendar tables words day z before n move balances after =
