@@ -1,23 +1,23 @@
 -- Computed rows at full size: moves with every number they can meet, calls in the form with lending alone, and lists on both sides of a move.
 use mathlib.Core.Path.{_≡_, refl}
-use mathlib.Core.Bool.{Bool, true, cond, _&&_}
+use mathlib.Core.Bool.{Bool, true, cond, not, _&&_}
 use mathlib.Core.List.{List, [], _∷_, _++_}
-use Prim.Native.Nat.{ℕ, _+_}
+use Prim.Native.Nat.{ℕ}
 use lib.Dec.{eqb}
 use lib.ListN.{length, replicate, set, take, drop}
 use Rattle.lists.specs.All.{all}
 use Rattle.days.specs.Weekdays.{weekdays}
 use Rattle.securities.specs.Cases.{caseTables}
 use Rattle.claims.specs.Amounts.{ofInterest}
-use Rattle.book.specs.declared.Book.{Book}
 use Rattle.history.specs.Calls.{Call}
-use Rattle.history.specs.Results.{Run, run, runFrom}
+use Rattle.history.specs.Results.{runFrom}
 use Rattle.history.specs.Owed.{owed}
-use Rattle.history.specs.Statement.{recordsIn, paid, ofTypeAndRow, ofAll}
+use Rattle.history.specs.Statement.{recordsIn, paid, ofTypeAndRow}
 use Rattle.history.proofs.Rows.{blank, tagLine, sent, inPieces, closing, zeros, sevens}
 use Rattle.history.proofs.ListRows.{sameNumbers, entries, counted, borrowerToLender}
 use Rattle.carry_over.specs.CarriedOver.{carried}
 use Rattle.carry_over.specs.LendingForm.{lendingNumber, lendingRun, lendingOpened}
+use Rattle.carry_over.specs.Statement.{isRepo}
 use Rattle.carry_over.proofs.Opened.{openedCarry}
 
 -- ---- moves
@@ -118,6 +118,13 @@ openings =
     && eqb (lendingOpened weekdays caseTables zeros 20230331 .number) 1
     && eqb (lendingOpened weekdays caseTables saved 20230401 .number) 4
 
+-- the codes of repo
+repo : ℕ → Bool
+repo code = isRepo (sent 1 1 2 0 0 code 5000 blank 0)
+
+repoCodes : Bool
+repoCodes = not (repo 0) && not (repo 6) && repo 7 && repo 12 && not (repo 13) && not (isRepo (closing 2 0))
+
 -- ---- after a move
 
 -- a return of 5,000 and the close over the first of April: 10,000 par, 5,000 cents of claim type 3
@@ -167,6 +174,6 @@ bothSides =
 
 -- ---- the theorem
 
-rows-hold : all moves rows && all numbered lendingRows && openings && laterList && bothSides ≡ true
-unfolding openedCarry empty saved moves badWeekdays rows numbered lendingRows openings later laterList before after bothSides sameNumbers entries counted borrowerToLender
+rows-hold : all moves rows && all numbered lendingRows && openings && repoCodes && laterList && bothSides ≡ true
+unfolding openedCarry empty saved moves badWeekdays rows numbered lendingRows openings repo repoCodes later laterList before after bothSides sameNumbers entries counted borrowerToLender
 rows-hold = refl
