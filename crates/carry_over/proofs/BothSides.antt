@@ -15,7 +15,7 @@ use Rattle.book.specs.Soundness.{wrongLength, badDay, badBalances, tableCauses,
 use Rattle.book.proofs.Judged.{SoundTables, numbered-book}
 use Rattle.history.specs.Calls.{Call}
 use Rattle.history.specs.Causes.{openingNumber}
-use Rattle.history.specs.Results.{Run, Opened, result, openedFor, opened, run, followedBy, runFrom}
+use Rattle.history.specs.Results.{Run, Opened, result, leftOpen, openedFor, opened, run, followedBy, runFrom}
 use Rattle.history.specs.Ledger.{Ledger, started, bookOf, balancesOf, judged}
 use Rattle.history.specs.Statement.{AgreesWithLedger}
 use Rattle.history.specs.Continuation.{SoundLedger, GoesOn, Period, AllGoOn}
@@ -24,9 +24,10 @@ use Rattle.history.proofs.StaysSound.{opened-sound}
 use Rattle.history.proofs.Theorem.{started-book, started-balances, every-history}
 use Rattle.history.proofs.Continuation.{started-sound, all-go-on, every-continuation}
 use Rattle.history.proofs.Runs.{run-append, run-sound}
+use Rattle.history.proofs.ByValue.{runs-from}
 use Rattle.carry_over.specs.CarriedOver.{widened, carried}
 use Rattle.carry_over.specs.LendingForm.{lendingWrongLength, lendingRun, lendingOpened}
-use Rattle.carry_over.specs.Statement.{NoRepo, withRepoEmpty, CountsBothSides, EveryCarriedHistory, NoRepoIn, AllCarryOn, EveryCarriedPeriod}
+use Rattle.carry_over.specs.Statement.{NoRepo, withRepoEmpty, CountsBothSides, EveryCarriedHistory, EveryCarriedCall, NoRepoIn, AllCarryOn, EveryCarriedPeriod}
 use Rattle.carry_over.proofs.Zeros.{length-widened, bad-widened}
 use Rattle.carry_over.proofs.Carried.{saved-words, carry-clear, number-is, carried-is}
 use Rattle.carry_over.proofs.Lists.{every-lending-list, run-words}
@@ -148,6 +149,17 @@ pub every-carried-history : EveryCarriedHistory
 every-carried-history calendar tables words day z before n balances l after =
     subst (λ (o : Opened). CountsBothSides calendar tables day before after balances (lendingRun calendar tables (o .book) (o .balances) before))
     (sym (lending-opened-is calendar tables words day z)) (both-sides calendar tables words day z before n balances l after)
+
+pub every-carried-call : EveryCarriedCall
+unfolding leftOpen
+every-carried-call calendar tables words day z before n balances l moved filled e after steps all =
+    let start = lendingOpened calendar tables words day in
+    let r = lendingRun calendar tables (start .book) (start .balances) before in
+    let k = every-carried-history calendar tables words day z before n balances l after in (
+      ap (λ (o : Opened). o .number) e ∙ k .accepted,
+      subst (λ (x : Run). AgreesWithLedger calendar tables day (before ++ after) (followedBy r x) (judged calendar tables (started day) (before ++ after)))
+          (sym (runs-from calendar tables moved filled (carried calendar (r .book) (r .balances) balances) after steps all e)) (k .agrees),
+    )
 
 -- ---- calendar and tables that change
 

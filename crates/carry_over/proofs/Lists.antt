@@ -5,10 +5,11 @@ use Prim.Native.Nat.{ℕ}
 use lib.ListN.{length}
 use Rattle.book.specs.declared.Book.{Book}
 use Rattle.history.specs.Calls.{Call}
-use Rattle.history.specs.Results.{Run, Opened, runBy, runFrom}
-use Rattle.carry_over.specs.CarriedOver.{widened}
+use Rattle.history.specs.Results.{Run, Opened, leftOpen, runBy, runFrom}
+use Rattle.history.proofs.ByValue.{runs-from}
+use Rattle.carry_over.specs.CarriedOver.{widened, carried}
 use Rattle.carry_over.specs.LendingForm.{lendingResult, lendingRun}
-use Rattle.carry_over.specs.Statement.{NoRepo, withRepoEmpty, EveryLendingList, EveryLaterList}
+use Rattle.carry_over.specs.Statement.{NoRepo, withRepoEmpty, EveryLendingList, EveryLaterList, EveryLaterCall}
 use Rattle.carry_over.proofs.Carried.{saved-words, number-is, carried-is}
 use Rattle.carry_over.proofs.Widened.{emptied, result-widened, lending-words}
 
@@ -35,3 +36,9 @@ unfolding runFrom
 every-later-list calendar book saved balances z later tables calls n =
     ap (λ (o : Opened). runFrom later tables o calls) (carried-is calendar book saved balances z)
     ∙ every-lending-list later tables book saved (saved-words calendar book saved balances (sym (number-is calendar book saved balances) ∙ z)) calls n
+
+pub every-later-call : EveryLaterCall
+unfolding leftOpen
+every-later-call calendar book saved balances moved filled e z later tables calls steps n all =
+    runs-from later tables moved filled (carried calendar book saved balances) calls steps all e
+    ∙ every-later-list calendar book saved balances (sym (ap (λ (o : Opened). o .number) e) ∙ z) later tables calls n
