@@ -9,12 +9,12 @@ use lib.Dec.{eqb}
 use lib.ListN.{length, getD, drop, drop-of-length-le}
 use lib.Seq.{drop-cons}
 use borrow.Author.Tests.{eqb-true, eq-eqb, ne-eqb, le-leb, lt-leb, not-false}
-use Rattle.lists.specs.Tests.{or-false-left, or-false-right}
+use Rattle.lists.specs.Tests.{or-false-left}
 use Rattle.lists.specs.First.{firstOf, numbered, appliesAt, cleared, hit, skip, none}
 use Rattle.days.specs.Days.{badCalendar, isOpen, openAfter}
 use Rattle.securities.specs.Securities.{goodTables}
 use Rattle.book.specs.Book.{Position, position}
-use Rattle.book.specs.Soundness.{wrongLength, badDay, goodBalance, goodBalancesFrom, badBalances, tableCauses}
+use Rattle.book.specs.Soundness.{wrongLength, badDay, goodBalance, goodBalancesFrom, badBalances, tableCauses, stateCauses, carryCauses}
 
 -- ---- one of two tests
 
@@ -57,15 +57,6 @@ module _ (calendar tables balances : List ℕ) where
       eqb-true (length calendar) 480
       (not-false _ (or-false-left _ _ (or-false-left _ (not (eqb (length balances) 8192)) (cleared 1 (tableCauses calendar tables balances) numbered-tables e))))
 
-  -- and of the balances'
-  pub balance-length : firstOf (tableCauses calendar tables balances) ≡ 0 → length balances ≡ 8192
-  unfolding tableCauses wrongLength appliesAt
-  balance-length e =
-      eqb-true (length balances) 8192
-      (not-false _
-      (or-false-right (not (eqb (length calendar) 480) || not (eqb (length tables) 1824)) _
-      (cleared 1 (tableCauses calendar tables balances) numbered-tables e)))
-
   module _ (a : length calendar ≡ 480) (b : length tables ≡ 1824) (c : length balances ≡ 8192) where
     right-lengths : wrongLength calendar tables balances ≡ false
     unfolding wrongLength
@@ -82,6 +73,34 @@ module _ (calendar tables balances : List ℕ) where
     pub tables-accepted : badCalendar calendar ≡ false → goodTables calendar tables ≡ true → _≡_ {A = ℕ} 0 (firstOf (tableCauses calendar tables balances))
     unfolding tableCauses
     tables-accepted e f = skip 1 _ right-lengths (skip 2 _ e (skip 3 _ (ap not f) none))
+
+-- ---- numbers 1, 2 and 4 of carrying over
+
+module _ (calendar : List ℕ) (day : ℕ) (saved balances : List ℕ) where
+  pub carry-calendar : (length calendar ≡ 480 → ⊥) → 1 ≡ firstOf (carryCauses calendar day saved balances)
+  unfolding carryCauses
+  carry-calendar h = hit 1 _ (search (or-left, or-right, wrong (length calendar) 480 h) depth 4)
+
+  pub carry-saved : (length saved ≡ 4096 → ⊥) → 1 ≡ firstOf (carryCauses calendar day saved balances)
+  unfolding carryCauses
+  carry-saved h = hit 1 _ (search (or-left, or-right, wrong (length saved) 4096 h) depth 4)
+
+  pub carry-balances : (length balances ≡ 8192 → ⊥) → 1 ≡ firstOf (carryCauses calendar day saved balances)
+  unfolding carryCauses
+  carry-balances h = hit 1 _ (search (or-left, or-right, wrong (length balances) 8192 h) depth 4)
+
+  module _ (a : length calendar ≡ 480) (b : length saved ≡ 4096) (c : length balances ≡ 8192) where
+    carry-lengths : (not (eqb (length calendar) 480) || not (eqb (length saved) 4096) || not (eqb (length balances) 8192)) ≡ false
+    carry-lengths = rw (eq-eqb (length calendar) 480 a, eq-eqb (length saved) 4096 b, eq-eqb (length balances) 8192 c)
+
+    pub carry-bad-calendar : badCalendar calendar ≡ true → 2 ≡ firstOf (carryCauses calendar day saved balances)
+    unfolding carryCauses
+    carry-bad-calendar e = skip 1 _ carry-lengths (hit 2 _ e)
+
+    pub carry-state : {n : ℕ} → badCalendar calendar ≡ false → n ≡ firstOf (stateCauses calendar day saved)
+        → n ≡ firstOf (carryCauses calendar day saved balances)
+    unfolding carryCauses
+    carry-state e k = skip 1 _ carry-lengths (skip 2 _ e k)
 
 -- ---- the day
 

@@ -11,6 +11,10 @@ use Rattle.lists.specs.Tabulate.{tabulate}
 abbrev pub balanceWords : ℕ
 balanceWords = 8192
 
+-- Those of one tracking. A book saved before repo was tracked has the words of lending alone.
+abbrev pub trackingWords : ℕ
+trackingWords = 4096
+
 -- A balance is at most 9,000,000,000.
 abbrev pub largestBalance : ℕ
 largestBalance = 9000000000

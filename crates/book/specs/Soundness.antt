@@ -1,5 +1,5 @@
 -- Document 01, What can be refused, numbers 1 to 4: calendar, tables, day and balances that a call can work on; document 02, numbers 12 and
--- 13: date limits (card 5) and minimum pieces (card 6) that it can.
+-- 13: date limits (card 5) and minimum pieces (card 6) that it can; and card 8: a saved book that can be carried over.
 use mathlib.Core.Bool.{Bool, true, not, _&&_, _||_}
 use mathlib.Core.List.{List, [], _∷_, _++_}
 use Prim.Native.Nat.{ℕ, suc}
@@ -9,7 +9,7 @@ use Rattle.lists.specs.First.{Cause, cause}
 use Rattle.days.specs.Days.{calendarWords, badCalendar, isOpen, openAfter}
 use Rattle.securities.specs.Lent.{goodLimits, goodPieces}
 use Rattle.securities.specs.Securities.{tableWords, goodTables}
-use Rattle.book.specs.Book.{balanceWords, largestBalance, Position, position}
+use Rattle.book.specs.Book.{balanceWords, trackingWords, largestBalance, Position, position}
 
 -- Calendar, tables or balances of wrong length: number 1.
 unfoldable pub wrongLength : List ℕ → List ℕ → List ℕ → Bool
@@ -64,3 +64,11 @@ lentBookCauses calendar tables limits pieces day balances =
 -- Opening can meet only 1 to 4, and for 4 only the day's causes.
 unfoldable pub openingCauses : List ℕ → List ℕ → List ℕ → ℕ → List Cause
 openingCauses calendar tables balances day = tableCauses calendar tables balances ++ (cause 4 (badDay calendar day) ∷ [])
+
+-- Carrying a book over can meet 1, 2 and 4: the calendar, the saved balances or those that it fills have a wrong length; the calendar is bad;
+-- the book's day or a saved balance is. It is lent no tables, and what the balances that it fills hold does not matter.
+unfoldable pub carryCauses : List ℕ → ℕ → List ℕ → List ℕ → List Cause
+carryCauses calendar day saved balances =
+    cause 1 (not (eqb (length calendar) calendarWords) || not (eqb (length saved) trackingWords) || not (eqb (length balances) balanceWords))
+    ∷ cause 2 (badCalendar calendar)
+    ∷ stateCauses calendar day saved

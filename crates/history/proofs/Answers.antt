@@ -13,7 +13,7 @@ use Rattle.book.specs.Soundness.{openingCauses}
 use Rattle.book.proofs.Judged.{numbered-book, numbered-lent}
 use Rattle.history.specs.Calls.{Call, transfer, close, bufferOf, claimsOf}
 use Rattle.history.specs.Causes.{callCauses, soundCauses, causes, numberFor, openingNumber}
-use Rattle.history.specs.Results.{nextBook, nextBalances, resultFor, left, result, leftOpen, openedFor, opened}
+use Rattle.history.specs.Results.{nextBook, nextBalances, resultWith, resultFor, left, result, leftOpen, openedFor, opened}
 
 module _ (calendar tables : List ℕ) (book : Book) (balances : List ℕ) (call : Call) where
   -- ---- the number
@@ -40,7 +40,7 @@ module _ (calendar tables : List ℕ) (book : Book) (balances : List ℕ) (call 
 
   refused-for : (n : ℕ) → (n ≡ 0 → ⊥)
       → left (record { number = n; book = book; claims = 0 }) (bufferOf call) balances ≡ resultFor n calendar tables book balances call
-  unfolding resultFor left
+  unfolding resultWith left
   refused-for zero d = absurd (d refl)
   refused-for (suc n) d = refl
 
@@ -57,7 +57,7 @@ module _ (calendar tables : List ℕ) (book : Book) (balances : List ℕ) (call 
       → buffer ≡ written (claimsOf calendar tables book balances call) (bufferOf call)
       → after ≡ nextBalances balances call
       → left (record { number = 0; book = b; claims = k }) buffer after ≡ result calendar tables book balances call
-  unfolding result left resultFor
+  unfolding result left resultWith
   answers-accepted b k buffer after e p q r s =
       (λ i. record { answer = record { number = 0; book = p i; claims = q i; buffer = r i }; balances = s i })
       ∙ ap (λ (n : ℕ). resultFor n calendar tables book balances call) e

@@ -13,7 +13,7 @@ use Rattle.book.specs.Book.{word}
 use Rattle.book.specs.Loans.{trackingOf, stepOf, increasing, decreasing, unchanged, increase, decrease, bySender, byReceiver, changeOf, changed}
 use Rattle.history.specs.Calls.{Call, transfer, close}
 use Rattle.history.specs.Causes.{numberFor}
-use Rattle.history.specs.Results.{nextBalances, resultFor, result, run}
+use Rattle.history.specs.Results.{nextBalances, resultWith, resultFor, result, runBy}
 use Rattle.history.specs.Apart.{OfTracking, NotOf, EveryCallApart, EveryListApart}
 use Rattle.history.proofs.Accepted.{Fields, taken}
 use Rattle.history.proofs.Balances.{code-parts, step-bound}
@@ -59,7 +59,7 @@ module _ (t : Transfer) (f : Fields t) (k w : ℕ) (d : ¬ OfTracking k (t .code
       go false false e g = refl
 
 pub every-call-apart : EveryCallApart
-unfolding result resultFor nextBalances
+unfolding result resultWith nextBalances
 every-call-apart calendar tables book balances k call d w a u = go call (numberFor calendar tables book balances call) refl d
   where
     go : (c : Call) (n : ℕ) → numberFor calendar tables book balances c ≡ n → NotOf k c
@@ -69,7 +69,7 @@ every-call-apart calendar tables book balances k call d w a u = go call (numberF
     go c (suc n) e d = refl
 
 pub every-list-apart : EveryListApart
-unfolding run
+unfolding runBy
 every-list-apart calendar tables book balances k [] d w a u = refl
 every-list-apart calendar tables book balances k (call ∷ calls) d w a u =
     every-list-apart calendar tables _ _ k calls (d .1) w a u ∙ every-call-apart calendar tables book balances k call (d .0) w a u

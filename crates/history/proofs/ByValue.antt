@@ -6,7 +6,7 @@ use Prim.Native.Nat.{ℕ}
 use Rattle.book.specs.declared.Book.{Book}
 use Rattle.book.specs.declared.Done.{Done}
 use Rattle.history.specs.Calls.{Call}
-use Rattle.history.specs.Results.{Result, Run, Opened, left, result, leftOpen, opened, run, runFrom}
+use Rattle.history.specs.Results.{Result, Run, Opened, left, result, leftOpen, opened, runBy, run, runFrom}
 use Rattle.history.specs.Ledger.{started, bookOf, balancesOf, judged}
 use Rattle.history.specs.Statement.{AgreesWithLedger}
 use Rattle.history.specs.Continuation.{GoesOn}
@@ -21,7 +21,7 @@ from now rest = record { answers = now .answer ∷ rest .answers; book = rest .b
 module _ (calendar tables : List ℕ) where
   runs-alike : (book : Book) (balances : List ℕ) (calls : List Call) (steps : List Step) → AllKeep calendar tables book balances calls steps
       → runOf book balances steps ≡ run calendar tables book balances calls
-  unfolding runOf run left from
+  unfolding runOf runBy left from
   runs-alike book balances [] [] all = refl
   runs-alike book balances [] (s ∷ steps) all = absurd all
   runs-alike book balances (call ∷ calls) [] all = absurd all

@@ -15,8 +15,8 @@ use Rattle.book.specs.declared.Book.{Book}
 use Rattle.book.specs.Loans.{offPiece}
 use Rattle.history.specs.Calls.{Call, transfer, close, bufferOf, claimsOf}
 use Rattle.history.specs.Causes.{causes, numberFor}
-use Rattle.history.specs.Results.{Run, nextBook, nextBalances, resultFor, result, run}
-use Rattle.history.specs.LentOnes.{lentOnes, numberBefore, resultBefore, runBefore, OnesMeetNeither, EveryListFromBefore}
+use Rattle.history.specs.Results.{Run, nextBook, nextBalances, resultWith, resultFor, result, runBy}
+use Rattle.history.specs.LentOnes.{lentOnes, numberBefore, resultBefore, OnesMeetNeither, EveryListFromBefore}
 use Rattle.history.proofs.Opened.{openedCauses}
 
 -- ---- ones
@@ -73,7 +73,7 @@ module _ (calendar tables : List ℕ) (book : Book) (balances : List ℕ) where
 
   -- nothing but the number looks at the pieces
   for-number : (n : ℕ) (call : Call) → resultFor n calendar tables book balances (lentOnes call) ≡ resultFor n calendar tables book balances call
-  unfolding resultFor lentOnes claimsOf nextBook nextBalances bufferOf
+  unfolding resultWith lentOnes claimsOf nextBook nextBalances bufferOf
   for-number zero (transfer a) = refl
   for-number zero (close a) = refl
   for-number (suc n) (transfer a) = refl
@@ -88,7 +88,7 @@ module _ (calendar tables : List ℕ) (book : Book) (balances : List ℕ) where
 -- ---- a list of calls
 
 pub every-list-from-before : EveryListFromBefore
-unfolding run runBefore
+unfolding runBy
 every-list-from-before calendar tables book balances [] = refl
 every-list-from-before calendar tables book balances (call ∷ calls) =
     rw (result-before calendar tables book balances call)

@@ -8,14 +8,14 @@ use Rattle.book.specs.Loans.{loanCauses, postingCauses}
 use Rattle.book.specs.Soundness.{tableCauses, stateCauses, bookCauses, lentCauses, lentBookCauses}
 use Rattle.history.specs.Calls.{bufferOf, claimsOf}
 use Rattle.history.specs.Causes.{recordCauses, outOfRange, fieldCauses, countCauses, lastDayCauses, roomCauses, transferCauses, callCauses, soundCauses, causes, numberFor, openingNumber}
-use Rattle.history.specs.Results.{nextBook, nextBalances, resultFor, result, openedFor, opened, run, runFrom}
+use Rattle.history.specs.Results.{nextBook, nextBalances, resultWith, result, openedFor, opened, runBy, runFrom}
 use Rattle.history.specs.Ledger.{started, isIncrease, isDecrease, increasedBy, decreasedBy, increases, decreases, parLent, transferCount, transfers, bookOf, balancesOf, numberOn, dayAfter, keep, answerFor, judged}
 use Rattle.history.specs.Owed.{amounts, isSent, isFailed, lentBy, owedBy, owed}
 use Rattle.history.specs.Statement.{recordsIn, centsIn, counts, paidIn, paid}
 use Rattle.history.specs.Continuation.{owedSince}
 
 unfoldable pub openedHistory : ℕ
-unfolding openedClaims openedBook bufferOf claimsOf recordCauses outOfRange fieldCauses countCauses lastDayCauses roomCauses transferCauses callCauses soundCauses causes numberFor openingNumber nextBook nextBalances resultFor result openedFor opened run runFrom started isIncrease isDecrease increasedBy decreasedBy increases decreases parLent transferCount transfers bookOf balancesOf numberOn dayAfter keep answerFor judged amounts isSent isFailed lentBy owedBy owed recordsIn centsIn counts paidIn paid owedSince
+unfolding openedClaims openedBook bufferOf claimsOf recordCauses outOfRange fieldCauses countCauses lastDayCauses roomCauses transferCauses callCauses soundCauses causes numberFor openingNumber nextBook nextBalances resultWith result openedFor opened runBy runFrom started isIncrease isDecrease increasedBy decreasedBy increases decreases parLent transferCount transfers bookOf balancesOf numberOn dayAfter keep answerFor judged amounts isSent isFailed lentBy owedBy owed recordsIn centsIn counts paidIn paid owedSince
 openedHistory = 0
 
 unfoldable pub openedCauses : ℕ

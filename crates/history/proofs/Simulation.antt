@@ -16,7 +16,7 @@ use Rattle.book.specs.declared.Book.{Book}
 use Rattle.book.specs.Book.{Position, InRange, layout}
 use Rattle.history.specs.Calls.{Call, transfer, close, bufferOf, claimsOf}
 use Rattle.history.specs.Causes.{numberFor}
-use Rattle.history.specs.Results.{Answer, nextBook, nextBalances, resultFor, result, Run, run}
+use Rattle.history.specs.Results.{Answer, nextBook, nextBalances, resultWith, resultFor, result, Run, runBy, run}
 use Rattle.history.specs.Ledger.{isIncrease, Entry, Ledger, transferCount, transfers, increasedBy, decreasedBy, increases, decreases, parLent, bookOf, balancesOf, dayAfter, keep, numberOn, answerFor, Judged, judged}
 use Rattle.history.specs.Statement.{Balanced, BalancedBefore}
 use Rattle.history.proofs.Balances.{increase-range, covered-transfer, balances-transfer}
@@ -52,7 +52,7 @@ module _ (calendar tables : List ℕ) where
 
   pub balances-step : (t : Ledger) (call : Call) (n : ℕ) → Covered (t .entries) → Accepts t call n
       → resultFor n calendar tables (bookOf t) (balancesOf t) call .balances ≡ balancesOf (keep n calendar t call)
-  unfolding resultFor nextBalances keep increases decreases increasedBy decreasedBy balancesOf parLent sum
+  unfolding resultWith nextBalances keep increases decreases increasedBy decreasedBy balancesOf parLent sum
   balances-step t (transfer a) zero h e =
       let k = taken calendar tables (bookOf t) (balancesOf t) a (e refl) in
       balances-transfer (increases (t .entries)) (decreases (t .entries)) h (transferOf (a .message)) (k .fields .code) (k .within) (k .enough)
@@ -95,7 +95,7 @@ module _ (calendar tables : List ℕ) where
       λ i. record { day = openAfter calendar (t .day); count = e i }
 
   answer-step : (t : Ledger) (call : Call) (n : ℕ) → resultFor n calendar tables (bookOf t) (balancesOf t) call .answer ≡ answerFor n calendar tables t call
-  unfolding resultFor answerFor
+  unfolding resultWith answerFor
   answer-step t call zero =
       let claims = claimsOf calendar tables (bookOf t) (balancesOf t) call in
       let b = next-book t call in
@@ -119,7 +119,7 @@ module _ (calendar tables : List ℕ) where
 
   pub follows : (calls : List Call) (t : Ledger) → Covered (t .entries) → BalancedBefore (t .entries)
       → Follows (run calendar tables (bookOf t) (balancesOf t) calls) (judged calendar tables t calls)
-  unfolding run judged result numberOn
+  unfolding runBy judged result numberOn
   follows [] t h k = record { answers = refl; book = refl; balances = refl; covered = h; before = k }
   follows (call ∷ calls) t h k =
       let n = numberFor calendar tables (bookOf t) (balancesOf t) call in

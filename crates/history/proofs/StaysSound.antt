@@ -21,7 +21,7 @@ use Rattle.book.proofs.Judged.{kept, numbered-book, numbered-opening}
 use Rattle.book.proofs.Posted.{posting-clear, posted-sound, posted-length}
 use Rattle.history.specs.Calls.{TransferArguments, Call, transfer, close, claimsOf}
 use Rattle.history.specs.Causes.{recordCauses, fieldCauses, countCauses, roomCauses, transferCauses, callCauses, soundCauses, causes, numberFor, openingNumber}
-use Rattle.history.specs.Results.{nextBook, nextBalances, resultFor, result, openedFor, opened}
+use Rattle.history.specs.Results.{nextBook, nextBalances, resultWith, resultFor, result, openedFor, opened}
 use Rattle.history.proofs.Accepted.{taken, closed, accepted-iff}
 
 -- numbers 1 to 4 where the balances keep their length and the day and the balances are sound
@@ -83,7 +83,7 @@ module _ (calendar tables : List ℕ) (book : Book) (balances : List ℕ) (z : f
   -- what a call leaves, accepted or refused
   pub result-sound : (call : Call)
       → firstOf (bookCauses calendar tables (result calendar tables book balances call .answer .book .day) (result calendar tables book balances call .balances)) ≡ 0
-  unfolding result resultFor
+  unfolding result resultWith
   result-sound call = go (numberFor calendar tables book balances call) refl
     where
       go : (n : ℕ) → numberFor calendar tables book balances call ≡ n
@@ -93,7 +93,7 @@ module _ (calendar tables : List ℕ) (book : Book) (balances : List ℕ) (z : f
 
 -- ---- an opening
 
-good-zeros : (n w : ℕ) → goodBalancesFrom w (replicate n 0) ≡ true
+pub good-zeros : (n w : ℕ) → goodBalancesFrom w (replicate n 0) ≡ true
 unfolding goodBalancesFrom goodBalance
 good-zeros zero w = refl
 good-zeros (suc n) w = and-both (or-zero (position w)) (good-zeros n (suc w))

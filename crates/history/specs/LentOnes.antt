@@ -3,14 +3,14 @@
 -- that the table without 13 and 14 gives, and so does a list of such calls.
 use mathlib.Core.Path.{_≡_}
 use mathlib.Core.Bool.{false}
-use mathlib.Core.List.{List, [], _∷_, map}
+use mathlib.Core.List.{List, map}
 use Prim.Native.Nat.{ℕ}
 use Rattle.lists.specs.First.{firstOf, appliesAt, without}
 use Rattle.securities.specs.Lent.{ones}
 use Rattle.book.specs.declared.Book.{Book}
 use Rattle.history.specs.Calls.{Call, transfer, close}
 use Rattle.history.specs.Causes.{causes}
-use Rattle.history.specs.Results.{Result, Run, resultFor, run}
+use Rattle.history.specs.Results.{Result, resultFor, runBy, run}
 
 -- A call from before, as one that is lent ones.
 unfoldable pub lentOnes : Call → Call
@@ -26,14 +26,6 @@ unfoldable pub resultBefore : List ℕ → List ℕ → Book → List ℕ → Ca
 resultBefore calendar tables book balances call =
     resultFor (numberBefore calendar tables book balances call) calendar tables book balances call
 
--- A list of calls from before, each on the book and balances that the last one left.
-unfoldable pub runBefore : List ℕ → List ℕ → Book → List ℕ → List Call → Run
-runBefore calendar tables book balances [] = record { answers = []; book = book; balances = balances }
-runBefore calendar tables book balances (call ∷ calls) =
-    let now = resultBefore calendar tables book balances call in
-    let rest = runBefore calendar tables (now .answer .book) (now .balances) calls in
-    record { answers = now .answer ∷ rest .answers; book = rest .book; balances = rest .balances }
-
 -- Lent ones, a call meets neither 13 nor 14.
 abbrev pub OnesMeetNeither : Type 0
 OnesMeetNeither = (calendar tables : List ℕ) (book : Book) (balances : List ℕ) (call : Call)
@@ -43,4 +35,4 @@ OnesMeetNeither = (calendar tables : List ℕ) (book : Book) (balances : List �
 -- Every list of calls from before runs as it did.
 abbrev pub EveryListFromBefore : Type 0
 EveryListFromBefore = (calendar tables : List ℕ) (book : Book) (balances : List ℕ) (calls : List Call)
-    → run calendar tables book balances (map lentOnes calls) ≡ runBefore calendar tables book balances calls
+    → run calendar tables book balances (map lentOnes calls) ≡ runBy (resultBefore calendar tables) book balances calls

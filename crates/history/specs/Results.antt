@@ -5,6 +5,7 @@ use mathlib.Core.List.{List, [], _∷_}
 use Prim.Native.Nat.{ℕ, zero, suc, _+_}
 use lib.ListN.{length, replicate}
 use Rattle.days.specs.Days.{firstDate, openAfter}
+use Rattle.records.specs.declared.Claim.{Claim}
 use Rattle.records.specs.MessageRecords.{transferOf}
 use Rattle.claims.specs.Written.{written}
 use Rattle.book.specs.declared.Book.{Book}
@@ -35,11 +36,10 @@ unfoldable pub nextBalances : List ℕ → Call → List ℕ
 nextBalances balances (transfer a) = changed balances (changeOf (transferOf (a .message))) (transferOf (a .message) .par)
 nextBalances balances (close a) = balances
 
--- A call that got a number. Accepted calls return 0, the new book and how many claims were written, from the buffer's start; any
--- other number comes with the book given and 0 claims, and leaves everything as it was.
-unfoldable pub resultFor : ℕ → List ℕ → List ℕ → Book → List ℕ → Call → Result
-resultFor zero calendar tables book balances call =
-    let claims = claimsOf calendar tables book balances call in
+-- A call that got a number and gives claims. Accepted calls return 0, the new book and how many claims were written, from the buffer's start;
+-- any other number comes with the book given and 0 claims, and leaves everything as it was.
+unfoldable pub resultWith : ℕ → List Claim → List ℕ → Book → List ℕ → Call → Result
+resultWith zero claims calendar book balances call =
     record {
       answer = record {
         number = 0;
@@ -49,8 +49,13 @@ resultFor zero calendar tables book balances call =
       };
       balances = nextBalances balances call;
     }
-resultFor (suc n) calendar tables book balances call =
+resultWith (suc n) claims calendar book balances call =
     record { answer = record { number = suc n; book = book; claims = 0; buffer = bufferOf call }; balances = balances }
+
+-- A call that got a number, with its claims.
+abbrev pub resultFor : ℕ → List ℕ → List ℕ → Book → List ℕ → Call → Result
+resultFor number calendar tables book balances call =
+    resultWith number (claimsOf calendar tables book balances call) calendar book balances call
 
 -- What a call's answer says with the claim buffer and the balances that it leaves.
 unfoldable pub left : Done → List ℕ → List ℕ → Result
@@ -92,12 +97,17 @@ pub record Run : Type 0 where
   pub book : Book
   pub balances : List ℕ
 
-unfoldable pub run : List ℕ → List ℕ → Book → List ℕ → List Call → Run
-run calendar tables book balances [] = record { answers = []; book = book; balances = balances }
-run calendar tables book balances (call ∷ calls) =
-    let now = result calendar tables book balances call in
-    let rest = run calendar tables (now .answer .book) (now .balances) calls in
+-- Each call on the book and balances that the last one left, by what a call gives.
+unfoldable pub runBy : (Book → List ℕ → Call → Result) → Book → List ℕ → List Call → Run
+runBy gives book balances [] = record { answers = []; book = book; balances = balances }
+runBy gives book balances (call ∷ calls) =
+    let now = gives book balances call in
+    let rest = runBy gives (now .answer .book) (now .balances) calls in
     record { answers = now .answer ∷ rest .answers; book = rest .book; balances = rest .balances }
+
+-- By what transfers and closes give.
+abbrev pub run : List ℕ → List ℕ → Book → List ℕ → List Call → Run
+run calendar tables book balances calls = runBy (result calendar tables) book balances calls
 
 -- A list of calls on what an opening leaves.
 unfoldable pub runFrom : List ℕ → List ℕ → Opened → List Call → Run

@@ -1,13 +1,13 @@
 // Judges calendar, tables, a book's day and its balances (document 01, section The book), with the numbers 1 to 4 of what can be refused,
-// and date limits and minimum pieces (document 02, cards 5 and 6), with numbers 12 and 13. Calendar, tables, balances, limits and pieces are
-// taken in any length where a function gives the number for it.
+// and date limits and minimum pieces (document 02, cards 5 and 6), with numbers 12 and 13; so a saved book that is carried over (card 8).
+// Calendar, tables, balances, limits and pieces are taken in any length where a function gives the number for it.
 ghost use mathlib.Core.Path.{_≡_};
 ghost use mathlib.Core.Bool.{true};
 ghost use lib.ListN.{length};
 ghost use Rattle.lists.specs.First.{firstOf};
 ghost use Rattle.lists.specs.Sums.{sum};
 ghost use Rattle.book.specs.Book.{position};
-ghost use Rattle.book.specs.Soundness.{badDay, goodBalance, badBalances, tableCauses, stateCauses, bookCauses, lentBookCauses, openingCauses};
+ghost use Rattle.book.specs.Soundness.{badDay, goodBalance, badBalances, tableCauses, stateCauses, bookCauses, lentBookCauses, openingCauses, carryCauses};
 ghost use Rattle.judging.specs.Quick.{excessOf, ownPars};
 use days::Day;
 
@@ -17,6 +17,9 @@ const CALENDAR_WORDS: usize = 480;
 const TABLE_WORDS: usize = 1824;
 
 const BALANCE_WORDS: usize = 8192;
+
+// The balances of a book saved before repo was tracked.
+const SAVED_WORDS: usize = 4096;
 
 // The number 1, 2 or 3 that calendar, tables and balances meet, 0 where they meet none.
 fn table_number(calendar: &[u32], tables: &[u32], balances: &[u64]) -> u16
@@ -111,12 +114,14 @@ fn own_pars(balances: &[u64]) -> u64
     total
 }
 
-// Whether a balance is too large, or nonzero where an account would lend itself. Only where a quick test finds something are the words
-// judged one by one.
+// Whether a balance is too large, or nonzero where an account would lend itself. The balances of a book have a quick test first; only where
+// it finds something are the words judged one by one.
 fn bad_balances(balances: &[u64]) -> bool
-    requires { ⌜ length (now balances) ≡ 8192 ⌝ }
     ensures { λ r. ⌜ r ≡ badBalances (now (balances .entry)) ⌝ }
 {
+    if balances.len() != BALANCE_WORDS {
+        return judge_balances(balances);
+    }
     if excesses(balances) != 0 {
         return judge_balances(balances);
     }
@@ -128,7 +133,7 @@ fn bad_balances(balances: &[u64]) -> bool
 
 // The number 4 where a book's day or its balances meet it, else 0.
 fn state_number(calendar: &[u32], day: u32, balances: &[u64]) -> u16
-    requires { ⌜ (length (now calendar) ≡ 480) × (length (now balances) ≡ 8192) ⌝ }
+    requires { ⌜ length (now calendar) ≡ 480 ⌝ }
     ensures { λ r. ⌜ r ≡ firstOf (stateCauses (now (calendar .entry)) day (now (balances .entry))) ⌝ }
 {
     if bad_day(calendar, day) {
@@ -188,4 +193,23 @@ pub fn opening_number(calendar: &[u32], tables: &[u32], balances: &[u64], day: u
         return 4;
     }
     0
+}
+
+// The first of the numbers 1, 2 and 4 that carrying a saved book over meets, 0 where it meets none; what the balances hold does not matter.
+pub fn carry_number(calendar: &[u32], day: u32, saved: &[u64], balances: &[u64]) -> u16
+    ensures { λ r. ⌜ r ≡ firstOf (carryCauses (now (calendar .entry)) day (now (saved .entry)) (now (balances .entry))) ⌝ }
+{
+    if calendar.len() != CALENDAR_WORDS {
+        return 1;
+    }
+    if saved.len() != SAVED_WORDS {
+        return 1;
+    }
+    if balances.len() != BALANCE_WORDS {
+        return 1;
+    }
+    if days::bad_calendar(calendar) {
+        return 2;
+    }
+    state_number(calendar, day, saved)
 }

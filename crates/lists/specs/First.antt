@@ -41,6 +41,11 @@ unfoldable pub without : ℕ → List Cause → List Cause
 without n [] = []
 without n (c ∷ cs) = cond (eqb (c .number) n) cs (c ∷ without n cs)
 
+-- the table with another test for the cause with a number
+unfoldable pub withTest : ℕ → Bool → List Cause → List Cause
+withTest n b [] = []
+withTest n b (c ∷ cs) = cause (c .number) (cond (eqb (c .number) n) b (c .applies)) ∷ withTest n b cs
+
 -- ---- the number is 0 exactly when no cause applies
 
 pub none-applies : (cs : List Cause) → numbered cs ≡ true → firstOf cs ≡ 0 → NoneApplies cs

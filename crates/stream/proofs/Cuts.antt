@@ -12,7 +12,7 @@ use borrow.Author.Tests.{ne-eqb}
 use Rattle.lists.specs.First.{firstOf}
 use Rattle.book.specs.declared.Book.{Book}
 use Rattle.book.specs.Soundness.{bookCauses}
-use Rattle.history.specs.Results.{result, run}
+use Rattle.history.specs.Results.{result, runBy, run}
 use Rattle.history.proofs.StaysSound.{result-sound}
 use Rattle.stream.specs.declared.Next.{Next}
 use Rattle.stream.specs.declared.Next.the-variants.{Waiting, Wrong, Record}
@@ -89,11 +89,11 @@ module _ (s : List ℕ) where
 module _ (calendar tables : List ℕ) where
   module _ (book : Book) (balances s : List ℕ) where
     pub stream-empty : length s ≡ 0 → streamBytes calendar tables book balances s ≡ []
-    unfolding streamBytes callsOf ending run emittedAll
+    unfolding streamBytes callsOf ending runBy emittedAll
     stream-empty z = rw (split-empty s z, z) refl
 
     pub stream-wrong : Wrong ≡ next true s → streamBytes calendar tables book balances s ≡ answerBytes 5
-    unfolding streamBytes callsOf ending run emittedAll
+    unfolding streamBytes callsOf ending runBy emittedAll
     stream-wrong e = rw (split-wrong s e, ne-eqb (length s) 0 (not-empty s e)) refl
 
     pub stream-record : (n : ℕ) → Record n ≡ next true s
@@ -101,7 +101,7 @@ module _ (calendar tables : List ℕ) where
         ≡ emitted (result calendar tables book balances (callFor (take n s)) .answer)
         ++ streamBytes calendar tables (result calendar tables book balances (callFor (take n s)) .answer .book)
         (result calendar tables book balances (callFor (take n s)) .balances) (drop n s)
-    unfolding streamBytes callsOf ending run emittedAll added
+    unfolding streamBytes callsOf ending runBy emittedAll added
     stream-record n e = rw (split-record s n e) (append-assoc (emitted (result calendar tables book balances (callFor (take n s)) .answer)) _ _)
 
   -- ---- a run and what follows it

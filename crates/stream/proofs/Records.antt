@@ -22,7 +22,7 @@ use Rattle.book.specs.declared.Book.{Book}
 use Rattle.book.specs.declared.Done.{Done}
 use Rattle.history.specs.Calls.{Call, transfer, close, publishedTransfer, bufferOf, claimsOf}
 use Rattle.history.specs.Causes.{roomCauses, callCauses, soundCauses, causes, numberFor}
-use Rattle.history.specs.Results.{Result, nextBook, nextBalances, resultFor, left, result}
+use Rattle.history.specs.Results.{Result, nextBook, nextBalances, resultWith, resultFor, left, result}
 use Rattle.history.proofs.Accepted.{taken, closed}
 use Rattle.stream.specs.Stream.{callWith, callFor, answerBytes, emitted}
 use Rattle.stream.specs.Serving.{Working, working}
@@ -84,7 +84,7 @@ module _ (calendar tables : List ℕ) (book : Book) (balances : List ℕ) where
         };
         balances = nextBalances balances call;
       }
-  unfolding withBuffer resultFor nextBook nextBalances claimsOf bufferOf
+  unfolding withBuffer resultWith nextBook nextBalances claimsOf bufferOf
   accepted-with buffer (transfer a) = refl
   accepted-with buffer (close a) = refl
 
@@ -192,7 +192,7 @@ module _ (calendar tables : List ℕ) (book : Book) (balances message l : List �
       bytes-length = all-length (claimsOf calendar tables book balances call) ∙ ap (λ (k : ℕ). 35 * k) (sym count)
 
       emits : emitted (resultFor 0 calendar tables book balances call .answer) ≡ bytes ++ answerBytes 0
-      unfolding emitted resultFor written bytes
+      unfolding emitted resultWith written bytes
       emits =
           let cs = claimsOf calendar tables book balances call in
           ap (λ (x : List ℕ). x ++ answerBytes 0) (take-at (bytesOfAll cs) (drop (35 * length cs) (bufferOf call)) (35 * length cs) (all-length cs))
@@ -218,7 +218,7 @@ module _ (calendar tables : List ℕ) (book : Book) (balances message l : List �
             written = 35 * d .claims + 6;
             output = put (o ++ drop 65536 l) (35 * d .claims) (answerBytes (d .number));
           }) (workingFor 0)
-      unfolding workingFor left resultFor
+      unfolding workingFor left resultWith
       accepted-leaves =
           λ i. record {
             book = full i .answer .book;
@@ -238,7 +238,7 @@ module _ (calendar tables : List ℕ) (book : Book) (balances message l : List �
           output = put (o ++ drop 65536 l) (35 * d .claims) (answerBytes (d .number));
         }) (workingFor (suc n))
         × (o ≡ part)
-    unfolding left resultFor workingFor emitted withBuffer bufferOf
+    unfolding left resultWith workingFor emitted withBuffer bufferOf
     refused-leaves n e =
         let zero-claims : d .claims ≡ 0 = ap (λ (r : Result). r .answer .claims) e in
         let at : o ≡ part = ap (λ (r : Result). r .answer .buffer) e ∙ own call in

@@ -20,7 +20,7 @@ use Rattle.book.specs.Soundness.{bookCauses}
 use Rattle.book.proofs.Judged.{sound-number}
 use Rattle.history.specs.Calls.{close, publishedTransfer, bufferOf, claimsOf}
 use Rattle.history.specs.Causes.{numberFor}
-use Rattle.history.specs.Results.{Result, resultFor, result}
+use Rattle.history.specs.Results.{Result, resultWith, resultFor, result}
 use Rattle.history.proofs.StaysSound.{result-sound}
 use Rattle.stream.specs.declared.Next.{Next}
 use Rattle.stream.specs.declared.Next.the-variants.{Waiting, Wrong, Record}
@@ -45,7 +45,7 @@ module _ (calendar tables : List ℕ) (book : Book) (balances message : List ℕ
       go false = length-replicate {A = ℕ} 65536 0
 
   pub emitted-small : length (emitted (result calendar tables book balances (callFor message) .answer)) ≤ 65542
-  unfolding result resultFor emitted
+  unfolding result resultWith emitted
   emitted-small = go (numberFor calendar tables book balances (callFor message)) refl
     where
       small : (xs : List ℕ) (k n : ℕ) → 35 * k ≤ 65536 → length (take (35 * k) xs ++ answerBytes n) ≤ 65542

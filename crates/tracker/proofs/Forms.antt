@@ -10,7 +10,7 @@ use Rattle.book.specs.declared.Book.{Book}
 use Rattle.book.specs.declared.Done.{Done}
 use Rattle.history.specs.Calls.{Call, transfer, close, bufferOf}
 use Rattle.history.specs.Causes.{numberFor}
-use Rattle.history.specs.Results.{Result, Run, left, result, resultFor, nextBook, run, runFrom, opened}
+use Rattle.history.specs.Results.{Result, Run, left, result, resultWith, resultFor, nextBook, runBy, run, runFrom, opened}
 use Rattle.history.specs.Ledger.{started, judged}
 use Rattle.history.specs.Statement.{AgreesWithLedger}
 use Rattle.history.proofs.Theorem.{every-history}
@@ -39,7 +39,7 @@ module _ (calendar tables : List ℕ) (book : Book) (balances : List ℕ) where
   refused-for : (n : ℕ) (call : Call) (r : Reply) (own : Book) (buffer after : List ℕ)
       → left (together r own) buffer after ≡ resultFor n calendar tables book balances call → r .number ≢ 0
       → AsItWas book own (bufferOf call) buffer balances after (r .claims)
-  unfolding left resultFor
+  unfolding left resultWith
   refused-for zero call r own buffer after e refused = absurd (refused (ap (λ x. x .answer .number) e))
   refused-for (suc n) call r own buffer after e refused = record {
     book-kept = ap (λ x. x .answer .book) e;
@@ -51,7 +51,7 @@ module _ (calendar tables : List ℕ) (book : Book) (balances : List ℕ) where
   accepted-for : (n : ℕ) (call : Call) (r : Reply) (own : Book) (buffer after : List ℕ)
       → left (together r own) buffer after ≡ resultFor n calendar tables book balances call → r .number ≡ 0
       → own ≡ nextBook calendar book call
-  unfolding left resultFor
+  unfolding left resultWith
   accepted-for zero call r own buffer after e accepted = ap (λ x. x .answer .book) e
   accepted-for (suc n) call r own buffer after e accepted =
       let n-zero : suc n ≡ 0 = sym (ap (λ x. x .answer .number) e) ∙ accepted in absurd (omega arith)
@@ -82,7 +82,7 @@ from : Result → Run → Run
 from now rest = record { answers = now .answer ∷ rest .answers; book = rest .book; balances = rest .balances }
 
 pub runs-alike : RunsAlike
-unfolding runOf run left from
+unfolding runOf runBy left from
 runs-alike calendar tables book balances [] [] all = refl
 runs-alike calendar tables book balances [] (s ∷ steps) all = absurd all
 runs-alike calendar tables book balances (call ∷ calls) [] all = absurd all

@@ -1,7 +1,8 @@
-// Opening, transfer and close for C and Rust callers. A slice passes as a pointer and a count of its elements.
+// Opening, carrying over, transfer and close for C and Rust callers. A slice passes as a pointer and a count of its elements.
 ghost use mathlib.Core.Path.{_≡_};
 ghost use Rattle.history.specs.Calls.{Call, lentTransfer, publishedTransfer};
 ghost use Rattle.history.specs.Results.{Gives, leftOpen, opened};
+ghost use Rattle.carry_over.specs.CarriedOver.{carried};
 use book::Book;
 use book::Done;
 
@@ -18,6 +19,21 @@ pub extern "C" fn claim_tracker_open(
         × (r .claims ≡ 0) ⌝ }
 {
     opens::open(calendar, tables, balances, day)
+}
+
+// Carries over a book saved with 4,096 balances, those on loan: the balances become these, with repo empty. The book comes back as it was
+// given; refused, with 1, 2 or 4, the balances are left.
+#[no_mangle]
+pub extern "C" fn claim_tracker_carry_over(
+    calendar: &[u32],
+    book: Book,
+    saved: &[u64],
+    balances: &mut [u64],
+) -> Done
+    ensures { λ r. ⌜ (leftOpen r (now (balances .exit)) ≡ carried (now (calendar .entry)) book (now (saved .entry)) (now (balances .entry)))
+        × (r .claims ≡ 0) ⌝ }
+{
+    carry_over::carry_over(calendar, book, saved, balances)
 }
 
 // Works a transfer with the published maximum numbers: judges its par by the pieces of the securities, posts it, and writes its claims from

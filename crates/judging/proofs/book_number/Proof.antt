@@ -2,7 +2,7 @@
 use mathlib.Core.Path.{sym, _∙_}
 use Rattle.lists.specs.First.{hit-group, skip-group}
 use Rattle.book.specs.Soundness.{bookCauses}
-use Rattle.book.proofs.Causes.{numbered-tables, calendar-length, balance-length}
+use Rattle.book.proofs.Causes.{numbered-tables, calendar-length}
 use borrow.Author.Needs.{needs}
 use Rattle.judging.proofs.book_number.Statement.{statement}
 use Rattle.judging.proofs.book_number.Tie as tie
@@ -15,9 +15,7 @@ unfolding bookCauses
 returns c = hit-group _ _ (c .before .table-number .ensures) (c .if1 .taken)
 
 state-number-requires : tie.Need-state-number-requires
-state-number-requires c κs =
-    let z = sym (c .before .table-number .ensures) ∙ c .if1 .left in
-    (calendar-length _ _ _ z, balance-length _ _ _ z)
+state-number-requires c κs = calendar-length _ _ _ (sym (c .before .table-number .ensures) ∙ c .if1 .left)
 
 returns-2 : tie.Need-returns-2
 unfolding bookCauses

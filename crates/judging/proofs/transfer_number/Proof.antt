@@ -3,7 +3,7 @@ use mathlib.Core.Path.{sym, ap, _∙_}
 use mathlib.Core.Bool.{not}
 use Rattle.lists.specs.First.{hit, skip, hit-group, skip-group}
 use Rattle.book.specs.Soundness.{lentCauses, lentBookCauses}
-use Rattle.book.proofs.Causes.{numbered-tables, calendar-length, balance-length}
+use Rattle.book.proofs.Causes.{numbered-tables, calendar-length}
 use borrow.Author.Needs.{needs}
 use Rattle.judging.proofs.transfer_number.Statement.{statement}
 use Rattle.judging.proofs.transfer_number.Tie as tie
@@ -36,8 +36,7 @@ returns-3 c =
 
 state-number-requires : tie.Need-state-number-requires
 state-number-requires c κs =
-    let z = sym (c .before .before .before .before .before .table-number .ensures) ∙ c .before .before .before .before .if1 .left in
-    (calendar-length _ _ _ z, balance-length _ _ _ z)
+    calendar-length _ _ _ (sym (c .before .before .before .before .before .table-number .ensures) ∙ c .before .before .before .before .if1 .left)
 
 returns-4 : tie.Need-returns-4
 unfolding lentBookCauses lentCauses

@@ -1,0 +1,4 @@
+pub mod Copied
+pub mod Carried
+pub mod Zeros
+pub mod Widened

@@ -1,0 +1,58 @@
+-- A refused move leaves the balances; an accepted one clears them and copies the saved words.
+use mathlib.Core.Path.{refl, sym, ap, _∙_}
+use lib.ListN.{length, drop, length-replicate}
+use mathlib.Core.List.{_++_}
+use Rattle.carry_over.specs.CarriedOver.{carryNumber}
+use Rattle.carry_over.proofs.Carried.{saved-fits, carry-refused, carry-accepted}
+use borrow.Author.Needs.{needs}
+use Rattle.carry_over.proofs.carry_over.Statement.{statement}
+use Rattle.carry_over.proofs.carry_over.Tie as tie
+
+carry-number-requires : tie.Need-carry-number-requires
+carry-number-requires c κs = search needs
+
+refused-requires : tie.Need-refused-requires
+refused-requires c κs = search needs
+
+same-length : tie.Need-same-length
+same-length c = search needs
+
+returns : tie.Need-returns
+unfolding carryNumber
+returns c =
+    let a = c .before .before .before .before .before .before .before .args in
+    rw (c .refused .ensures)
+    (carry-refused (a .calendar .now) (a .book) (a .saved .now) (a .balances .now) _ (c .before .before .carry-number .ensures) (c .before .if1 .taken), refl)
+
+clear-requires : tie.Need-clear-requires
+clear-requires c κs = search needs
+
+copy-saved-requires : tie.Need-copy-saved-requires
+unfolding carryNumber
+copy-saved-requires c κs =
+    let a = c .before .before .before .before .before .before .before .before .before .before .before .args in
+    saved-fits (a .calendar .now) (a .book) (a .saved .now) (a .balances .now) _ _ (c .before .before .before .before .before .before .carry-number .ensures)
+    (c .before .before .before .before .before .if1 .left) (ap length (c .before .before .before .clear .ensures) ∙ length-replicate (length (a .balances .now)) 0)
+
+same-length-2 : tie.Need-same-length-2
+same-length-2 c = search needs
+
+returns-2 : tie.Need-returns-2
+unfolding carryNumber
+returns-2 c =
+    let a = c .before .before .before .before .before .before .before .before .before .before .before .before .before .before .args in
+    (carry-accepted (a .calendar .now) (a .book) (a .saved .now) (a .balances .now) _ _ (c .before .before .before .before .before .before .before .before .before .carry-number .ensures) (c .before .before .before .before .before .before .before .before .if1 .left)
+    (c .before .before .copy-saved .ensures ∙ ap (λ l. a .saved .now ++ drop (length (a .saved .now)) l) (c .before .before .before .before .before .before .clear .ensures)), refl)
+
+pub carry-over-spec : {M : Type 1} → statement M
+carry-over-spec =
+    tie.close
+    (tie.spec
+    carry-number-requires
+    refused-requires
+    same-length
+    returns
+    clear-requires
+    copy-saved-requires
+    same-length-2
+    returns-2)

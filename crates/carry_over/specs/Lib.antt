@@ -1,0 +1,3 @@
+pub mod CarriedOver
+pub mod LendingForm
+pub mod Statement

@@ -1,0 +1,91 @@
+-- Document 02, card 8, in words. For every list of transfers without repo codes and closes, on every book and every 4,096 balances, sound or
+-- not: the calls on the balances with repo empty give the answers (numbers, books, claim counts and claim buffers) that they give in the
+-- form with lending alone, and leave its balances with repo empty. So every list after an accepted move.
+-- A history that begins before the move counts on both sides of it: calls without repo codes in the form with lending alone, the move, which
+-- is accepted, then any calls. All answers, and the book and balances after the list, are those of the ledger of both lists, one behind the
+-- other: the par between two accounts, what the records pay and what the history owes.
+-- So where calendar and tables change on the way, before the move and after it.
+use mathlib.Core.Path.{_≡_}
+use mathlib.Core.Bool.{Bool, false, _&&_}
+use mathlib.Core.List.{List, [], _∷_, _++_}
+use Prim.Native.Nat.{ℕ}
+use lib.Dec.{ltb, leb}
+use lib.ListN.{length}
+use Rattle.records.specs.MessageRecords.{transferOf}
+use Rattle.book.specs.declared.Book.{Book}
+use Rattle.book.specs.Book.{balanceWords, trackingWords}
+use Rattle.history.specs.Calls.{Call, transfer, close}
+use Rattle.history.specs.Results.{Run, run, runFrom}
+use Rattle.history.specs.Ledger.{Ledger, started, judged}
+use Rattle.history.specs.Statement.{AgreesWithLedger}
+use Rattle.history.specs.Continuation.{GoesOn, Period, AllGoOn}
+use Rattle.carry_over.specs.CarriedOver.{widened, carried}
+use Rattle.carry_over.specs.LendingForm.{lendingRun, lendingOpened}
+
+-- A transfer with a repo code, 7 to 12.
+unfoldable pub isRepo : Call → Bool
+isRepo (transfer a) = ltb 6 (transferOf (a .message) .code) && leb (transferOf (a .message) .code) 12
+isRepo (close a) = false
+
+abbrev pub NoRepo : List Call → Type 0
+NoRepo [] = Unit {0}
+NoRepo (call ∷ calls) = (isRepo call ≡ false) × NoRepo calls
+
+-- What a list of calls in the form with lending alone gives and leaves, with repo empty.
+unfoldable pub withRepoEmpty : Run → Run
+withRepoEmpty r = record { answers = r .answers; book = r .book; balances = widened (r .balances) }
+
+-- ---- lists after the move
+
+abbrev pub EveryLendingList : Type 0
+EveryLendingList = (calendar tables : List ℕ) (book : Book) (balances : List ℕ) → length balances ≡ trackingWords
+    → (calls : List Call) → NoRepo calls
+    → run calendar tables book (widened balances) calls ≡ withRepoEmpty (lendingRun calendar tables book balances calls)
+
+-- After an accepted move, whatever calendar the later calls get.
+abbrev pub EveryLaterList : Type 0
+EveryLaterList = (calendar : List ℕ) (book : Book) (saved balances : List ℕ) → carried calendar book saved balances .number ≡ 0
+    → (later tables : List ℕ) (calls : List Call) → NoRepo calls
+    → runFrom later tables (carried calendar book saved balances) calls ≡ withRepoEmpty (lendingRun later tables book saved calls)
+
+-- ---- histories on both sides of the move
+
+-- What the calls before the move and those after it answer, and what the last one leaves.
+unfoldable pub together : Run → Run → Run
+together before after = record { answers = before .answers ++ after .answers; book = after .book; balances = after .balances }
+
+pub record CountsBothSides (calendar tables : List ℕ) (day : ℕ) (before after : List Call) (balances : List ℕ) (r : Run) : Type 0 where
+  pub accepted : carried calendar (r .book) (r .balances) balances .number ≡ 0
+  pub agrees : AgreesWithLedger calendar tables day (before ++ after)
+      (together r (runFrom calendar tables (carried calendar (r .book) (r .balances) balances) after))
+      (judged calendar tables (started day) (before ++ after))
+
+-- The balances that the move fills may hold anything.
+abbrev pub EveryCarriedHistory : Type 0
+EveryCarriedHistory = (calendar tables words : List ℕ) (day : ℕ) → lendingOpened calendar tables words day .number ≡ 0
+    → (before : List Call) → NoRepo before → (balances : List ℕ) → length balances ≡ balanceWords → (after : List Call)
+    → (let start = lendingOpened calendar tables words day in
+    CountsBothSides calendar tables day before after balances (lendingRun calendar tables (start .book) (start .balances) before))
+
+-- ---- calendar and tables that change
+
+abbrev pub NoRepoIn : List Period → Type 0
+NoRepoIn [] = Unit {0}
+NoRepoIn (p ∷ periods) = NoRepo (p .calls) × NoRepoIn periods
+
+-- Each period before the move goes on as the ledger does, in the form with lending alone and with repo empty; then the book and balances
+-- that the last one left are carried over, and where this is accepted, each period after it goes on.
+abbrev pub AllCarryOn : Ledger → Book → List ℕ → List Period → List ℕ → List ℕ → List Period → Type 0
+AllCarryOn ledger book saved [] calendar balances after =
+    carried calendar book saved balances .number ≡ 0
+    → AllGoOn ledger (carried calendar book saved balances .book) (carried calendar book saved balances .balances) after
+AllCarryOn ledger book saved (p ∷ before) calendar balances after =
+    let r = lendingRun (p .calendar) (p .tables) book saved (p .calls) in
+    let j = judged (p .calendar) (p .tables) ledger (p .calls) in
+    GoesOn (p .calendar) (p .tables) ledger (p .calls) (withRepoEmpty r) j × AllCarryOn (j .ledger) (r .book) (r .balances) before calendar balances after
+
+abbrev pub EveryCarriedPeriod : Type 0
+EveryCarriedPeriod = (calendar tables words : List ℕ) (day : ℕ) → lendingOpened calendar tables words day .number ≡ 0
+    → (before : List Period) → NoRepoIn before → (move balances : List ℕ) (after : List Period)
+    → (let start = lendingOpened calendar tables words day in
+    AllCarryOn (started day) (start .book) (start .balances) before move balances after)
