@@ -9,9 +9,9 @@ writes the calls to STEPS_FILE (crates/case_runs/data/case_runs.in) and prints w
 (crates/case_runs/stdout). Years and factors of the memo's fail and lending examples are those of the reference's cases.py, and the repo
 examples have those of lending; the interim examples are in 2026, where both Settlement Dates, 7 and 17 December, are open days. Memo 219's
 examples are in 2002 or 2004, where their Settlement Dates and the days of their claims are open days. Each run is made by the reference's
-tally and its direct calls side by side, but for saved books, which only the direct calls can take. A book that is carried over has a tally
-where its calls before the move are made by the reference with repo left out; the calls behind it are then compared with those too, as long
-as none has a repo code.
+tally and its direct calls side by side, but for saved books, which only the direct calls can take. A history is carried over with its
+tally: its calls before the move are made by the reference with repo left out, and those behind it are compared with this form too, up to the
+first with a repo code.
 
 Under a call stand its claims and the balances that are not zero: 'lent' for a loan and 'repo' for a repo, each with security, lender,
 borrower and par, loans first; under a refused carry over the words that it changed, of which there are none.
@@ -55,11 +55,12 @@ class Run:
 
     def __init__(self, name, day, tables, calendar=CALENDAR):
         self.name = name
-        self.both, self.lending = cards.Both(step_files.CARDS), None
+        self.both = cards.Both(step_files.CARDS)
         steps.set_tables(calendar, tables)
         self.open("opening", day)
 
     def open(self, name, day):
+        self.lending = None
         self.both.open(steps.calendar, steps.tables, day)
         self.show(name, steps.open("%s-%s" % (self.name, name), day))
 
@@ -664,12 +665,13 @@ def carried_books():
             ("8192-saved", 20230331, {18: 15_000}, {"saved": 8_192}), ("none-saved", 20230331, {}, {"saved": 0}),
             ("8191-balances", 20230331, {18: 15_000}, {"lent": 8_191}), ("4096-balances", 20230331, {18: 15_000}, {"lent": 4_096}),
             ("no-balances", 20230331, {}, {"lent": 0}), ("479-calendar-words", 20230331, {18: 15_000}, {"calendar_words": 479}),
-            ("no-calendar", 20230331, {}, {"calendar_words": 0}), ("479-calendar-words-on-a-closed-day", 20230401, {}, {"calendar_words": 479}),
+            ("no-calendar", 20230331, {}, {"calendar_words": 0}),
+            ("479-calendar-words-on-a-closed-day", 20230401, {}, {"calendar_words": 479}),
             ("4095-saved-past-the-limit", 20230331, {19: 9_000_000_001}, {"saved": 4_095}),
             ("past-the-limit", 20230331, {19: 9_000_000_001}, {}), ("past-the-limit-last", 20230331, {4_094: 9_000_000_001}, {}),
             ("largest-word", 20230331, {1: 2 ** 64 - 1}, {}), ("at-the-limit", 20230331, {1: 9_000_000_000, 4_094: 9_000_000_000}, {}),
-            ("with-itself", 20230331, {17: 1}, {}), ("with-itself-first", 20230331, {0: 1}, {}), ("with-itself-last", 20230331, {4_095: 1}, {}),
-            ("with-itself-between", 20230331, {7 * 256 + 4 * 17: 9_000_000_000}, {}),
+            ("with-itself", 20230331, {17: 1}, {}), ("with-itself-first", 20230331, {0: 1}, {}),
+            ("with-itself-last", 20230331, {4_095: 1}, {}), ("with-itself-between", 20230331, {7 * 256 + 4 * 17: 9_000_000_000}, {}),
             ("around-with-itself", 20230331, {7 * 256 + 4 * 17 + d: 7 for d in (-16, -1, 1, 16)}, {})):
         run.carry_over(name, day, words, 3, **more)
     run.carry_over("old-day-and-full-count", 20030404, {18: 15_000}, 4_294_967_295)
@@ -691,8 +693,9 @@ def carried_histories():
     calendar = mk.only((20230331, 20230403, 20230428, 20230501, 20230502, 20230515))
     tables = mk.tables_of({s: mk.security(3, 1, [mk.cases_row(4), mk.cases_row(5)]) for s in (0, 15)})
     calls = {
-        "lent": ((1, 2, 0, 50_000, 1), {}), "lent-back": ((2, 1, 0, 3_000, 4), {}), "lent-in-the-last-security": ((15, 14, 15, 70_000, 5), {}),
-        "returned": ((2, 1, 0, 20_000, 3), {}), "close-of-20230331": (None, {}), "fail": ((1, 2, 0, 200_000), {"contract": 20230315}),
+        "lent": ((1, 2, 0, 50_000, 1), {}), "lent-back": ((2, 1, 0, 3_000, 4), {}),
+        "lent-in-the-last-security": ((15, 14, 15, 70_000, 5), {}), "returned": ((2, 1, 0, 20_000, 3), {}), "close-of-20230331": (None, {}),
+        "fail": ((1, 2, 0, 200_000), {"contract": 20230315}),
         "returned-above-it": ((2, 1, 0, 30_001, 2), {}), "lent-more": ((1, 2, 0, 10_000, 5), {}), "close-of-20230403": (None, {}),
         "returned-after-it": ((2, 1, 0, 15_000, 6), {}), "close-of-20230428": (None, {}), "returned-in-full": ((2, 1, 0, 25_000, 2), {})}
     for moved in range(len(calls) + 1):
@@ -705,8 +708,9 @@ def carried_histories():
                 run.transfer(name, *fields, **more)
     run = Run("carried-with-repos", 20230331, tables, calendar)
     run.move("move", 20230331, list(calls.values())[:8])
-    for name, *fields in (("repo", 1, 2, 0, 40_000, 7), ("repo-returned-above-it", 2, 1, 0, 40_001, 9), ("repo-returned", 2, 1, 0, 5_000, 9),
-                          ("loan-returned", 2, 1, 0, 15_000, 3), ("repo-in-the-last-security", 15, 14, 15, 1, 10)):
+    for name, *fields in (
+            ("repo", 1, 2, 0, 40_000, 7), ("repo-returned-above-it", 2, 1, 0, 40_001, 9), ("repo-returned", 2, 1, 0, 5_000, 9),
+            ("loan-returned", 2, 1, 0, 15_000, 3), ("repo-in-the-last-security", 15, 14, 15, 1, 10)):
         run.transfer(name, *fields)
     run.transfer("loan-off-its-piece", 2, 1, 0, 12_500, 3, pieces=[1_000] * 16)
     run.transfer("with-limits", 1, 2, 0, 200_000, contract=20230315, limits=[1] * 5)

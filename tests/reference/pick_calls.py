@@ -43,18 +43,19 @@ PIECES = {("pieces", "broken", *pieces) for pieces in step_files.BROKEN_PIECES} 
 MEMO = {("before the memo", name) for name in (
     "limits not used", "loan claimed at a close", "15 on a held balance", "15 before 8", "15 with an empty tag")} | {
     ("before the memo", "%d before 15" % n) for n in (6, 11, 12, 13, 14, 132, 133, 135, 138, 139)}
-# What a carry over is lent: its parts of fixed length, by the words of the calendar, of the saved book and of the balances.
+# The lengths of what a carry over is lent; balances are the saved ones, words those that it writes.
 CARRIED_LENGTHS = {"calendar": 480, "balances": step_files.REPO_AT, "words": 2 * step_files.REPO_AT}
-# What a carry over shows, with its number: carried_facts. A cause by its name is there alone. 'Both halves' are those of the balances that it
-# is lent, with words other than zero.
+# What a carry over shows, with its number: carried_facts. A cause that is named stands alone. 'Both halves': before the call the words of
+# loans and the words of repos are not all zero.
 CARRIED = {("carried", 1, name, more) for name in CARRIED_LENGTHS for more in (-1, 1)} | {
     ("carried", 1, "balances", step_files.REPO_AT), ("carried", 1, "words", -step_files.REPO_AT)} | {
     ("carried", *shown) for shown in (
         (1, "before 2"), (1, "before 4"), (2, "alone"), (2, "before 4"), (4, "closed day"), (4, "last open day"), (4, "no date"),
         (4, "past the limit"), (4, "past the limit in the last security"), (4, "with itself"), (4, "first word"), (4, "last word"),
         (0, "no word as it was"), (0, "balances that 4 would refuse"), (0, "largest count"), (0, "count 0"), (0, "before the memo"),
-        (0, "from the memo on"), (0, "day before the last"), (0, "par in the first security"), (0, "par in the last security"),
-        (0, "largest balance"), (0, "nothing on loan"))} | {("carried", n, "both halves") for n in (0, 1, 2, 4)}
+        (0, "loan before the memo"), (0, "loan from the memo on"), (0, "day before the last"), (0, "par in the first security"),
+        (0, "par in the last security"), (0, "par in every security"), (0, "largest balance"), (0, "nothing on loan"))} | {
+    ("carried", n, "both halves") for n in (0, 1, 2, 4)}
 WANTED = step_files.wanted(NUMBERS) | REPOS | LIMITS | PIECES | MEMO | CARRIED
 LARGEST_BUFFER = 4096
 CANDIDATES = 40 * count
@@ -98,9 +99,11 @@ def accepted_carry_facts(call) -> set:
         "no word as it was": all(a != b for a, b in zip(fitted(saved, len(words)), words)),
         "balances that 4 would refuse": cards.Rules(step_files.CARDS).bad_balances(words),
         "largest count": call["count"] == ref.LARGEST_COUNT, "count 0": call["count"] == 0, "before the memo": is_old,
-        "from the memo on": not is_old, "day before the last": call["day"] == days[-2], "par in the first security": any(saved[:256]),
-        "par in the last security": any(saved[-256:]), "largest balance": max(saved) == ref.LARGEST_BALANCE,
-        "nothing on loan": not any(saved)}.items() if holds}
+        "loan before the memo": is_old and any(saved), "loan from the memo on": not is_old and any(saved),
+        "day before the last": call["day"] == days[-2], "par in the first security": any(saved[:256]),
+        "par in the last security": any(saved[-256:]),
+        "par in every security": all(any(saved[at:at + 256]) for at in range(0, len(saved), 256)),
+        "largest balance": max(saved) == ref.LARGEST_BALANCE, "nothing on loan": not any(saved)}.items() if holds}
 
 
 def carried_facts(call, number, answer) -> set:
@@ -308,7 +311,7 @@ def with_word(words, place, value) -> list:
 
 
 def refused_carries(call):
-    """An accepted carry over with one cause of a refusal, then with two."""
+    """What is other than in an accepted carry over: one cause of a refusal, then two."""
     saved, found = call["balances"], call["words"]
     days = ref.open_days(call["calendar"])
     closed = min((date for date in ref.open_days(EVERY_DAY) if date > call["day"] and date not in days), default=0)
@@ -334,19 +337,21 @@ def other_carries(call):
     found = [w + 1 if w % 500 == 17 else 0 for w in range(2 * step_files.REPO_AT)]
     good = dict(call, words=found)
     saved, days = call["balances"], ref.open_days(call["calendar"])
+    loans = {ref.place(s, s, 15 - s): s + 1 for s in range(16)}
     yield good
     yield dict(good, words=step_files.marks(2 * step_files.REPO_AT))
     for changes in ({"count": ref.LARGEST_COUNT}, {"count": 0}, {"day": days[0]}, {"day": days[-2]}, {"balances": [0] * len(saved)},
-                    {"balances": with_word(saved, 1, ref.LARGEST_BALANCE)}, {"balances": with_word(saved, len(saved) - 2, 1)}):
+                    {"balances": with_word(saved, 1, ref.LARGEST_BALANCE)}, {"balances": with_word(saved, len(saved) - 2, 1)},
+                    {"balances": [loans.get(w, 0) for w in range(len(saved))]}):
         yield good | changes
     yield from (good | changes for changes in refused_carries(good))
 
 
-def others(call):
-    """An accepted call once more with other arguments."""
+def once_more(call):
+    """An accepted call with other arguments; of the carry overs those with par on loan."""
     if call["kind"] in (1, WITH_LISTS):
         yield from other_lists(call, ref.read_record(ref.TRANSFER, call["message"])[1])
-    if call["kind"] == CARRY_OVER:
+    if call["kind"] == CARRY_OVER and any(call["balances"]):
         yield from other_carries(call)
 
 
@@ -371,7 +376,7 @@ def candidates():
             yield dict(call, balances=call["balances"][:step_files.REPO_AT])
             for name, lists in (("limits", step_files.BROKEN), ("pieces", step_files.BROKEN_PIECES)) if kind == WITH_LISTS else ():
                 yield from (dict(call, **{name: numbers}) for numbers in lists)
-        for again in others(call):
+        for again in once_more(call):
             more = argument_facts(again, make_calls.run(again)) - facts
             facts |= more
             if more:

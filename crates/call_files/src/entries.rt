@@ -2,9 +2,9 @@
 // An entry of the calls: the call in a byte (0 open, 1 transfer with ones as pieces, 2 close, 3 transfer that is lent lists); the number of
 // calendar words in four bytes and the words; the tables likewise; balances; day and count; the length of the message in four bytes and the
 // message; the claim buffer likewise; of a transfer that is lent lists the limits, or 4294967295 and no words in the form without them, and
-// the pieces. Of a carry over, 4: the calendar; the saved balances; day and count; the balances that it is lent beside them.
-// An entry of what they give: the number in two bytes; day, count and claims in four each; balances; the claim buffer, or of a carry over the
-// balances that it is lent beside them.
+// the pieces. A carry over, 4, has the calendar; the saved balances; day and count; the balances that it is to write.
+// An entry of what they give: the number in two bytes; day, count and claims in four each; balances; the claim buffer, or the balances that a
+// carry over is to write.
 // Balances: how many words in four bytes, how many of them are not zero in four, and for each of these its place and its par.
 use crate::Lists;
 use crate::byte_at;
@@ -16,8 +16,8 @@ use crate::past_words;
 use crate::plus;
 use crate::word_at;
 
-// A call: where its parts stand and how long they are. `words` is a second run of words beside the balances. A part that a call is not lent
-// is empty, at the end of the file.
+// A call: where its parts stand and how long they are. `words` is a second run of words behind the balances: those that a carry over is to
+// write. A part that a call is not lent is empty, at the end of the file.
 pub struct Entry {
     pub kind: u8,
     pub calendar: usize,
@@ -172,7 +172,7 @@ pub fn expected_at(kind: u8, s: &[u8], at: usize) -> Expected {
     expected_claims_at(s, at)
 }
 
-// Fills balances with those at a place; at the end of a file there are none but zeros.
+// Fills balances with those at a place; at the end of a file all are zeros.
 pub fn balances_at(s: &[u8], at: usize, balances: &mut [u64]) {
     book::clear(balances);
     crate::pairs_at(s, plus(at, 8), word_at(s, plus(at, 4)), balances);

@@ -3,9 +3,9 @@
 // name, the length of its message in four bytes, the message, and the length of its claim buffer in four bytes. Kinds: 0 opens a book
 // (message: the day), 1 is a transfer with ones as pieces, 2 a close, 3 a transfer that is lent lists (behind the length of its claim buffer
 // the number of limits and each of them, in four bytes, or 4294967295 and none in the form without them; then the pieces), 4 carries a saved
-// book over (message: day, count, how many words of the calendar and of the balances it is lent, how many saved balances there are, and
-// these as those of kind 129), 128 sets calendar and tables (message: their words), 129 sets the book (message: day, count, how many balances
-// are not zero, and for each of these its place in four bytes and its par in eight).
+// book over (message: day, count, how many words of the calendar and how many balances it is lent, how many balances are saved, how many of
+// these are not zero, and their places and pars as in kind 129), 128 sets calendar and tables (message: their words), 129 sets the book
+// (message: day, count, how many balances are not zero, and for each of these its place in four bytes and its par in eight).
 use crate::Lists;
 use crate::byte_at;
 use crate::call;
@@ -125,14 +125,14 @@ fn mark(words: &mut [u64]) {
     }
 }
 
-// Takes the marks from balances that a refused carry over was lent, so that what is not zero then is what it changed.
+// Takes the marks from balances that a refused carry over was lent: the words that are not zero then are those that it changed.
 fn unmark(number: u16, balances: &mut [u64]) {
     if number != 0 {
         mark(balances);
     }
 }
 
-// Fills saved balances with those of a message and carries them over to as many balances as it is lent.
+// Fills saved balances with those of a message and carries them over.
 fn carry_saved(
     message: &[u8],
     calendar: &[u32],
@@ -144,7 +144,7 @@ fn carry_saved(
     carry_over::carry_over(calendar, book, saved, balances)
 }
 
-// Carries the book of a message over, with the parts of the buffers that it names.
+// Carries the book of a message over, lent the parts of the buffers that it names.
 fn carry_parts(message: &[u8], calendar: &[u32], saved: &mut [u64], balances: &mut [u64]) -> Done {
     let c = fitting_words(word_at(message, 8) as usize, calendar);
     let b = fitting_balances(word_at(message, 12) as usize, balances);
@@ -168,7 +168,7 @@ fn carry_whole(
     carry_parts(message, calendar, saved, balances)
 }
 
-// Carries the book of a message over to balances that hold marks; refused, they get what differs from these.
+// Carries the book of a message over to balances that hold marks; refused, they are what differs from the marks.
 fn carry(message: &[u8], calendar: &[u32], balances: &mut [u64]) -> Done {
     let mut saved = [0u64; 8192];
     book::clear(balances);

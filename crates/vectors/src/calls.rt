@@ -83,7 +83,7 @@ fn load(
     call_files::entries::balances_at(s, call.words, words);
 }
 
-// Makes a call on its arguments. A carry over has its saved balances where the others have theirs, and its own behind them.
+// Makes a call on its arguments. The balances of a carry over are the saved ones; it writes the words.
 fn make(
     s: &[u8],
     call: Entry,
