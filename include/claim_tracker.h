@@ -31,7 +31,8 @@
 
    A book: its day, the number of its accepted transfers, and 8,192 words of balances: word 4096 * k + 256 * s + 16 * l + b is the par of
    security s that account l has lent to account b, k 0 on loan, 1 on repo, at most 9,000,000,000, and zero where l is b. Its day is open
-   and an open day follows it. All of it is the caller's, who may store it and go on later.
+   and an open day follows it. All of it is the caller's, who may store it and go on later. A book saved before repos were tracked has 4,096
+   words, those on loan: claim_tracker_carry_over makes the 8,192 of them, with nothing on repo, and every other call refuses them with 1.
 
    book.dat, 9,220 bytes: the calendar, the tables and the opening day, in this order, each word of 4 bytes.
 
@@ -73,9 +74,9 @@
 #include <stdint.h>
 
 #define CLAIM_TRACKER_VERSION_MAJOR 2
-#define CLAIM_TRACKER_VERSION_MINOR 1
+#define CLAIM_TRACKER_VERSION_MINOR 2
 #define CLAIM_TRACKER_VERSION_PATCH 0
-#define CLAIM_TRACKER_VERSION "2.1.0"
+#define CLAIM_TRACKER_VERSION "2.2.0"
 
 /* Every function answers a number that a caller has to look at, and takes no null pointer; compilers that can, watch over both. */
 #if defined(__GNUC__)
@@ -100,7 +101,7 @@
 extern "C" {
 #endif
 
-/* How many there are: accounts, securities, rows of a security, and words. */
+/* How many there are: accounts, securities, rows of a security, and words. The words on loan are the first half of the balances. */
 enum {
     CLAIM_TRACKER_ACCOUNTS = 16,
     CLAIM_TRACKER_SECURITIES = 16,
@@ -111,6 +112,7 @@ enum {
     CLAIM_TRACKER_TABLE_WORDS = 1824,
     CLAIM_TRACKER_LIMIT_WORDS = 5,
     CLAIM_TRACKER_PIECE_WORDS = 16,
+    CLAIM_TRACKER_LENDING_WORDS = 4096,
     CLAIM_TRACKER_BALANCE_WORDS = 8192
 };
 
@@ -133,11 +135,11 @@ enum {
 #define CLAIM_TRACKER_CLAIM_ROOM(n) ((size_t)CLAIM_TRACKER_CLAIM_BYTES * (size_t)(n))
 
 /* The number of a call. 0 is accepted. With any other the call is refused and leaves book, balances and buffers as they were. Where several
-   apply, the one that stands first here is answered. An opening meets 1 to 4 alone, a reader 5, a writer 10; 12 is met only where limits
-   are lent, 13 to 15 only by a transfer, and 12 to 14 by no record of a run. */
+   apply, the one that stands first here is answered. An opening meets 1 to 4 alone, carrying a book over 1, 2 and 4, a reader 5, a writer
+   10; 12 is met only where limits are lent, 13 to 15 only by a transfer, and 12 to 14 by no record of a run. */
 enum claim_tracker_number {
     CLAIM_TRACKER_ACCEPTED = 0,
-    CLAIM_TRACKER_WRONG_LENGTH = 1,             /* calendar, tables or balances have another number of words */
+    CLAIM_TRACKER_WRONG_LENGTH = 1,             /* calendar, tables, balances or saved balances have another number of words */
     CLAIM_TRACKER_BAD_CALENDAR = 2,             /* the calendar has a bit for a day that the month lacks */
     CLAIM_TRACKER_BAD_TABLES = 3,               /* the tables break a rule */
     CLAIM_TRACKER_BAD_LIMITS = 12,              /* the limits lent are not five, or break a rule */
@@ -375,6 +377,14 @@ struct claim_tracker_answer_reading {
 CLAIM_TRACKER_CALL CLAIM_TRACKER_NONNULL
 struct claim_tracker_done claim_tracker_open(const uint32_t *calendar, size_t calendar_words, const uint32_t *tables, size_t table_words,
                                              uint64_t *balances, size_t balance_words, uint32_t day);
+
+/* Carries a book over that was saved with the 4,096 words on loan: number 0, the book given, and the balances become the saved words on
+   loan and zeros on repo. Loans go on: what was lent before counts with what is lent and returned later. The day is any that a book may
+   have, before 20230130 too, and the count is any. Refused, with 1, 2 or 4: the number, the book given, and the balances as they were. The
+   saved words are only read; they may not stand in the balances. The claims are always 0. Of the balances only their number is judged. */
+CLAIM_TRACKER_CALL CLAIM_TRACKER_NONNULL
+struct claim_tracker_done claim_tracker_carry_over(const uint32_t *calendar, size_t calendar_words, struct claim_tracker_book book,
+                                                   const uint64_t *saved, size_t saved_words, uint64_t *balances, size_t balance_words);
 
 /* Works the transfer at the message's start: posts its par, counts it and writes its fail claims and then its interim claims from the claim
    buffer's start; the bytes behind them stay. The pieces are judged whatever the tracking code is. Refused: the number, the book given, no

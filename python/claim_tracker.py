@@ -15,7 +15,7 @@ from dataclasses import dataclass
 from enum import IntEnum
 from typing import NamedTuple
 
-__version__ = "2.1.0"
+__version__ = "2.2.0"
 
 ACCOUNTS = 16
 SECURITIES = 16
@@ -26,6 +26,7 @@ CALENDAR_WORDS = 480
 TABLE_WORDS = 1824
 LIMIT_WORDS = 5
 PIECE_WORDS = 16
+LENDING_WORDS = 4096
 BALANCE_WORDS = 8192
 TRANSFER_BYTES = 141
 CLOSE_BYTES = 4
@@ -276,6 +277,7 @@ _ANSWER_READING = _struct(AnswerReading, _U16, _ANSWER)
 _LENT = (ctypes.c_void_p, _SIZE)
 _FUNCTIONS = {
     "open": (_DONE, *_LENT, *_LENT, *_LENT, _U32),
+    "carry_over": (_DONE, *_LENT, _BOOK, *_LENT, *_LENT),
     "transfer": (_DONE, *_LENT, *_LENT, *_LENT, _BOOK, *_LENT, *_LENT, *_LENT),
     "transfer_with_limits": (_DONE, *_LENT, *_LENT, *_LENT, *_LENT, _BOOK, *_LENT, *_LENT, *_LENT),
     "close": (_DONE, *_LENT, *_LENT, _BOOK, *_LENT, *_LENT, *_LENT),
@@ -436,6 +438,13 @@ def open(calendar, tables, balances, day):
     """Opens a book on a day: all balances become zero. Refused, with 1 to 4: day 20000101 and count 0."""
     given = _apart(_Lent("calendar", calendar, _U32), _Lent("tables", tables, _U32), _Lent("balances", balances, _U64, True))
     return _done(_CALLS["open"](*given, _whole("day", day, _U32)))
+
+
+def carry_over(calendar, book, saved, balances):
+    """Carries a book over that was saved with the 4,096 balances on loan: the balances become these and, on repo, zeros. The book comes back
+    as given. Refused, with 1, 2 or 4: the balances stay. The saved ones are only read."""
+    lent = _apart(_Lent("calendar", calendar, _U32), _Lent("saved", saved, _U64), _Lent("balances", balances, _U64, True))
+    return _done(_CALLS["carry_over"](*lent[:2], _fields("book", Book, _BOOK, book), *lent[2:]))
 
 
 def _arguments(words, book, balances, message, claims):

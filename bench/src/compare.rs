@@ -13,6 +13,7 @@ const LENDING: u8 = 3;
 const REPO: u8 = 4;
 const ROWS_DROPPED: &str = "fail, rows dropped";
 const PAID_BEHIND: &str = "fail, paid behind";
+const LENDING_CLAIM: &str = "lending claim, outcome";
 const REPO_CLAIM: &str = "repo claim, outcome";
 const ROWS_OF_BOTH: &str = "close, rows of both";
 const REPO_TRANSFER: &str = "transfer, repo";
@@ -37,6 +38,14 @@ const SHORT_MONTH: &str = "before, short month";
 const PAST_LIMIT: &str = "before, past a limit";
 const LATER_WAITING: &str = "before, later waiting";
 const CROSSED: &str = "into the memo's day";
+const CARRY_OVER: &str = "carry over";
+const CARRIED_BEFORE: &str = "carry over, before";
+const CARRIED_ONTO: &str = "carry over, onto bad";
+const OWN_SAVED: &str = "carry over, own par";
+const TOO_MUCH_SAVED: &str = "carry over, too much";
+const SAVED_DAY: &str = "carry over, bad day";
+const SEVERAL: &str = "carry over, several";
+const CARRIED_CLAIM: &str = "carried, loans claimed";
 
 /// How often each kind of input got each number.
 type Tally = BTreeMap<(&'static str, u16), u64>;
@@ -75,7 +84,7 @@ fn count_claims(claims: &[u8], tally: &mut Tally) {
         let name = match claim[4] {
             FAIL => "fail claim, outcome",
             2 => "interim claim, outcome",
-            LENDING => "lending claim, outcome",
+            LENDING => LENDING_CLAIM,
             _ => REPO_CLAIM,
         };
         *tally.entry((name, claim[5] as u16)).or_default() += 1;
@@ -198,9 +207,71 @@ fn count_off_piece(pieces: &[u32], balances: &[u64], message: &[u8], number: u16
     *tally.entry((name, code as u16)).or_default() += 1;
 }
 
+/// Whether balances have a word where an account would lend itself, and one above the limit.
+fn bad_words(balances: &[u64]) -> [bool; 2] {
+    let own = balances.iter().enumerate().any(|(at, &par)| at / 16 % 16 == at % 16 && par > 0);
+    [own, balances.iter().any(|&par| par > inputs::MOST_LENT)]
+}
+
+/// Counts a carry over: one accepted on a day before the memo, and to a half of the balances that held bad words; one that gets 4 for one of
+/// its reasons alone; and one with reasons for other numbers behind its own.
+fn count_carry_over(world: &World, saved: &[u64], number: u16, tally: &mut Tally) {
+    let [own, too_much] = bad_words(saved);
+    let is_calendar_bad = world.calendar.iter().any(|word| word >> 31 == 1);
+    if number == 1 && is_calendar_bad || matches!(number, 1 | 2) && (own || too_much) {
+        *tally.entry((SEVERAL, number)).or_default() += 1;
+    }
+    match number {
+        0 => {
+            *tally.entry((CARRIED_BEFORE, rules::is_before_memo(world.book.day) as u16)).or_default() += 1;
+            for (half, words) in world.balances.chunks(TRACKING_WORDS).enumerate() {
+                if bad_words(words) != [false; 2] {
+                    *tally.entry((CARRIED_ONTO, half as u16)).or_default() += 1;
+                }
+            }
+        }
+        4 => {
+            let name = match (own, too_much) {
+                (false, false) => SAVED_DAY,
+                (true, false) => OWN_SAVED,
+                (false, true) => TOO_MUCH_SAVED,
+                (true, true) => return,
+            };
+            *tally.entry((name, 4)).or_default() += 1;
+        }
+        _ => {}
+    }
+}
+
+/// A carry over by both; where it is accepted, calls on what it leaves.
+fn compare_carry_over(random: &mut Random, tally: &mut Tally) -> Result<(), String> {
+    let (mut world, saved) = inputs::saved_world(random);
+    let (mut ours, mut theirs) = (world.balances.clone(), world.balances.clone());
+    let library = tracker::carry_over(&world.calendar, world.book, &saved, &mut ours);
+    let rust = rules::carry_over(&world.calendar, world.book, &saved, &mut theirs);
+    *tally.entry((CARRY_OVER, library.number)).or_default() += 1;
+    same("the answer", &library, &rust)?;
+    same_parts("the balances", &ours, &theirs)?;
+    count_carry_over(&world, &saved, library.number, tally);
+    if library.number != 0 {
+        return Ok(());
+    }
+    let claims = |tally: &Tally| (0..=3).filter_map(|outcome| tally.get(&(LENDING_CLAIM, outcome))).sum::<u64>();
+    let before = claims(tally);
+    world.balances = ours;
+    compare_calls_on(random, world, tally)?;
+    *tally.entry((CARRIED_CLAIM, (claims(tally) > before) as u16)).or_default() += 1;
+    Ok(())
+}
+
 /// A call on the same book from both, again and again on what the last one left.
 fn compare_calls(random: &mut Random, tally: &mut Tally) -> Result<(), String> {
     let world = inputs::world(random);
+    compare_calls_on(random, world, tally)
+}
+
+/// Likewise on a book that is given.
+fn compare_calls_on(random: &mut Random, world: World, tally: &mut Tally) -> Result<(), String> {
     let mut book = world.book;
     let (mut ours, mut theirs) = (world.balances.clone(), world.balances.clone());
     for _ in 0..random.pick(&[1, 1, 3, 40]) {
@@ -319,7 +390,9 @@ fn compare_serve(random: &mut Random, tally: &mut Tally) -> Result<(), String> {
 /// and fewer than the published numbers, pieces refused, and par off the piece: refused, accepted on loan and on repo since it clears the
 /// balance, and refused for what is nearly that. Of days before the memo: lending refused by each of its codes and repo accepted; an empty
 /// tag accepted, of class 1 too, and refused on a later day; a fail with more claims than its limit, also where several wait, one with a
-/// row on the edge of the half year, there since a month is short too, and one before it; a fail in no MBS; and a close into a later day.
+/// row on the edge of the half year, there since a month is short too, and one before it; a fail in no MBS; and a close into a later day. Of
+/// carry overs: each of their numbers, 1 and 2 where others apply too, 4 for each of its reasons alone, one accepted before the memo and
+/// later, on bad words in each half of the balances, and a book carried over whose loans are claimed.
 fn judge(tally: &Tally, count: u64) -> Result<(), String> {
     const MANY: u64 = 10_000;
     const SOME: RangeInclusive<u16> = 1..=u16::MAX;
@@ -363,6 +436,19 @@ fn judge(tally: &Tally, count: u64) -> Result<(), String> {
         (PAST_LIMIT, SOME),
         (LATER_WAITING, SOME),
         (CROSSED, SOME),
+        (CARRY_OVER, 0..=0),
+        (CARRY_OVER, 1..=1),
+        (CARRY_OVER, 2..=2),
+        (SEVERAL, 1..=1),
+        (SEVERAL, 2..=2),
+        (OWN_SAVED, 4..=4),
+        (TOO_MUCH_SAVED, 4..=4),
+        (SAVED_DAY, 4..=4),
+        (CARRIED_BEFORE, 0..=0),
+        (CARRIED_BEFORE, SOME),
+        (CARRIED_ONTO, 0..=0),
+        (CARRIED_ONTO, SOME),
+        (CARRIED_CLAIM, SOME),
     ];
     let is_met =
         |(name, numbers): &(&str, RangeInclusive<u16>)| tally.keys().any(|(kind, n)| kind == name && numbers.contains(n));
@@ -380,9 +466,10 @@ pub fn run(seed: u64, count: u64) -> Result<(), String> {
         let seed = seed.wrapping_add(case);
         let mut random = Random::new(seed);
         random.word();
-        let compared = match random.below(8) {
+        let compared = match random.below(9) {
             0 => compare_open(&mut random, &mut tally),
-            1..6 => compare_calls(&mut random, &mut tally),
+            1 => compare_carry_over(&mut random, &mut tally),
+            2..7 => compare_calls(&mut random, &mut tally),
             _ => compare_serve(&mut random, &mut tally),
         };
         compared.map_err(|difference| format!("seed {seed}: {difference}"))?;

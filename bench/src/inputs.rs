@@ -359,6 +359,40 @@ pub fn world(random: &mut Random) -> World {
     world
 }
 
+/// Changes a word of balances, often that of an account with itself or one at an end; it may become too large.
+fn spoil(random: &mut Random, balances: &mut [u64]) {
+    let at = match random.below(3) {
+        0 => 256 * random.below(balances.len() as u64 / 256 + 1) as usize + 17 * random.below(16) as usize,
+        1 => random.pick(&[0, 1, TRACKING_WORDS - 2, TRACKING_WORDS - 1, TRACKING_WORDS, 2 * TRACKING_WORDS - 1]),
+        _ => random.below(balances.len() as u64 + 1) as usize,
+    };
+    if let Some(word) = balances.get_mut(at) {
+        *word = random.pick(&[MOST_LENT, MOST_LENT + 1, u64::MAX, 1 << 63, 1 << 34, 1]);
+    }
+}
+
+/// What a carry over takes: a world whose balances are any words, since they are only written to, and the saved par on loan, some of it
+/// spoilt or of another length. Some calendars have a bit that no month has.
+pub fn saved_world(random: &mut Random) -> (World, Vec<u64>) {
+    let (mut world, mut saved) = (world(random), tracking(random));
+    match random.below(4) {
+        0 => world.balances.iter_mut().for_each(|word| *word = random.word()),
+        1 => (0..3).for_each(|_| spoil(random, &mut world.balances)),
+        _ => {}
+    }
+    match random.below(8) {
+        0 => cut(random, &mut saved),
+        1 => saved.resize(random.pick(&[TRACKING_WORDS - 1, TRACKING_WORDS + 1, 2 * TRACKING_WORDS]), 0),
+        2 | 3 => spoil(random, &mut saved),
+        _ => {}
+    }
+    if random.one_in(8) && !world.calendar.is_empty() {
+        let at = random.place(&world.calendar);
+        world.calendar[at] |= 1 << 31;
+    }
+    (world, saved)
+}
+
 /// Date limits: good ones, the published numbers, another length, a number at the edge of its range, or one above the one before.
 pub fn limits(random: &mut Random) -> Vec<u32> {
     let mut limits: Vec<u32> = (0..LIMIT_WORDS).map(|_| random.from(1, 16) as u32).collect();

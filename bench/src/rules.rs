@@ -1,4 +1,4 @@
-//! The rules of document 01, with cards 1 to 7 of document 02, in Rust: opening, transfer, close and a run of records.
+//! The rules of document 01, with cards 1 to 8 of document 02, in Rust: opening, carrying over, transfer, close and a run of records.
 mod book;
 mod claims;
 mod days;
@@ -9,7 +9,7 @@ mod serve;
 mod tables;
 mod tags;
 
-pub use book::{close, open, transfer, transfer_with_limits};
+pub use book::{carry_over, close, open, transfer, transfer_with_limits};
 pub use days::{is_before_memo, six_months_before};
 pub use limits::PUBLISHED;
 pub use pieces::ONES;

@@ -2,7 +2,7 @@
 use crate::inputs::{self, World};
 use crate::random::Random;
 use crate::tracker;
-use bench::rules::{self, BALANCE_WORDS, Book, CLAIM_ROOM, Done, ONES, Served, TABLE_WORDS};
+use bench::rules::{self, BALANCE_WORDS, Book, CLAIM_ROOM, Done, ONES, Served, TABLE_WORDS, TRACKING_WORDS};
 use std::fs::File;
 use std::hint::black_box;
 use std::path::{Path, PathBuf};
@@ -149,6 +149,23 @@ fn time_answer(name: &str, world: &World, number: u16, library: Call, rust: Call
     Ok(())
 }
 
+/// Times a carry over of the loans of a full book.
+fn time_carry_over(world: &World) {
+    const CALLS: usize = 1000;
+    type CarryOver = fn(&[u32], Book, &[u64], &mut [u64]) -> Done;
+    let saved = &world.balances[..TRACKING_WORDS];
+    let run = |call: CarryOver| {
+        let World { calendar, mut balances, book, .. } = world.clone();
+        move || {
+            for _ in 0..CALLS {
+                let done = call(&calendar, black_box(book), saved, black_box(&mut balances));
+                assert!(done.number == 0, "number {}", done.number);
+            }
+        }
+    };
+    line("carry over", &alternate(ROUNDS, CALLS, run(tracker::carry_over), run(rules::carry_over)));
+}
+
 /// A stream of transfers with closes among them: fails with a Contract Date, loans, repos, and plain deliveries.
 fn stream() -> Vec<u8> {
     let mut random = Random::new(11);
@@ -284,6 +301,7 @@ pub fn run(claimrun: Option<PathBuf>) -> Result<(), String> {
     time_call("close that crosses nothing", 20330822, tracker::close, rules::close, &close)?;
     time_call("close that crosses 1 row", 20330801, tracker::close, rules::close, &close)?;
     time_call("close that crosses 3 rows", 20330805, tracker::close, rules::close, &close)?;
+    time_carry_over(&full_book(20330801));
     let (world, stream) = (opened_book(), stream());
     let written = time_serve(&world, &stream)?;
     match claimrun.filter(|path| path.exists()) {

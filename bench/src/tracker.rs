@@ -16,6 +16,16 @@ mod exports {
             day: u32,
         ) -> Done;
 
+        pub fn claim_tracker_carry_over(
+            calendar: *const u32,
+            calendar_words: usize,
+            book: Book,
+            saved: *const u64,
+            saved_words: usize,
+            balances: *mut u64,
+            balance_words: usize,
+        ) -> Done;
+
         pub fn claim_tracker_transfer(
             calendar: *const u32,
             calendar_words: usize,
@@ -93,6 +103,20 @@ pub fn open(calendar: &[u32], tables: &[u32], balances: &mut [u64], day: u32) ->
             balances.as_mut_ptr(),
             balances.len(),
             day,
+        )
+    }
+}
+
+pub fn carry_over(calendar: &[u32], book: Book, saved: &[u64], balances: &mut [u64]) -> Done {
+    unsafe {
+        exports::claim_tracker_carry_over(
+            calendar.as_ptr(),
+            calendar.len(),
+            book,
+            saved.as_ptr(),
+            saved.len(),
+            balances.as_mut_ptr(),
+            balances.len(),
         )
     }
 }

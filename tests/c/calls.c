@@ -12,6 +12,7 @@
 static uint32_t calendar[2 * CLAIM_TRACKER_CALENDAR_WORDS];
 static uint32_t tables[2 * CLAIM_TRACKER_TABLE_WORDS];
 static uint64_t balances[2 * CLAIM_TRACKER_BALANCE_WORDS];
+static uint64_t saved[2 * CLAIM_TRACKER_LENDING_WORDS];
 static uint32_t *pieces;
 static size_t calendar_words = CLAIM_TRACKER_CALENDAR_WORDS, table_words = CLAIM_TRACKER_TABLE_WORDS;
 static size_t balance_words = CLAIM_TRACKER_BALANCE_WORDS, piece_words;
@@ -130,6 +131,16 @@ static void call(const char *name) {
     print_left(CLAIM_TRACKER_CLAIM_ROOM(done.claims));
 }
 
+/* Carries over as many of the saved words as the line says. */
+static void carry_over(void) {
+    size_t saved_words = number();
+    struct claim_tracker_done done =
+        claim_tracker_carry_over(calendar, calendar_words, book, saved, saved_words, balances, balance_words);
+    book = done.book;
+    printf("carry_over %u claims %zu book %" PRIu32 " %" PRIu32 " %08" PRIx32 " %08" PRIx32 "\n", done.number, done.claims, book.day,
+           book.count, checksum(saved, sizeof saved), checksum(balances, sizeof balances));
+}
+
 static void serve(void) {
     size_t count;
     bool ended = number() != 0;
@@ -219,10 +230,11 @@ static void put(const char *name) {
     if (strcmp(name, "calendar") == 0) calendar[place] = (uint32_t)word;
     if (strcmp(name, "tables") == 0) tables[place] = (uint32_t)word;
     if (strcmp(name, "balances") == 0) balances[place] = word;
+    if (strcmp(name, "saved") == 0) saved[place] = word;
 }
 
 static void work(const char *name) {
-    if (strcmp(name, "calendar") == 0 || strcmp(name, "tables") == 0 || strcmp(name, "balances") == 0) {
+    if (strcmp(name, "calendar") == 0 || strcmp(name, "tables") == 0 || strcmp(name, "balances") == 0 || strcmp(name, "saved") == 0) {
         put(name);
     } else if (strcmp(name, "pieces") == 0) {
         free(pieces);
@@ -240,6 +252,8 @@ static void work(const char *name) {
         book = done.book;
         printf("open %u claims %zu book %" PRIu32 " %" PRIu32 " %08" PRIx32 "\n", done.number, done.claims, book.day, book.count,
                checksum(balances, sizeof balances));
+    } else if (strcmp(name, "carry_over") == 0) {
+        carry_over();
     } else if (strcmp(name, "serve") == 0) {
         serve();
     } else if (strncmp(name, "read_", 5) == 0) {

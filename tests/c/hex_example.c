@@ -1,7 +1,7 @@
 /* Replays document 01's hex example through the exported functions: the book opened on 20230404 with the cases' tables, the first
    case's transfer from account 1 to 2, and all bytes that come out. Then the codecs both ways, two payments that wait for their Payment
    Dates, an interim claim, a close, refusals, both calls on the caller's own book, a repo beside a loan, date limits, half a book,
-   minimum pieces, and days before 20230130. */
+   minimum pieces, days before 20230130, and a saved book of loans that is carried over. */
 #include <stdio.h>
 #include <string.h>
 
@@ -308,6 +308,137 @@ static void check_held_loan(void) {
     }
 }
 
+/* A book saved on 20230331 with 3 transfers and 15,000 on loan from account 1 to account 2, with a change: to the lengths, to the book, to
+   a word of the calendar whose bits are turned, and to a saved word. */
+static const struct {
+    const char *name;
+    size_t calendar_words, saved_words, balance_words;
+    struct claim_tracker_book book;
+    size_t month;
+    uint32_t bits;
+    size_t place;
+    uint64_t word;
+    uint16_t number;
+} saved_books[] = {
+    {"a saved book", 480, REPO, WORDS, {20230331, 3}, 0, 0, 18, 15000, 0},
+    {"nothing on loan", 480, REPO, WORDS, {20230331, 3}, 0, 0, 18, 0, 0},
+    {"a second loan", 480, REPO, WORDS, {20230331, 3}, 0, 0, 33, 1, 0},
+    {"9,000,000,000 on loan in front", 480, REPO, WORDS, {20230331, 3}, 0, 0, 1, 9000000000, 0},
+    {"9,000,000,000 on loan at the end", 480, REPO, WORDS, {20230331, 3}, 0, 0, REPO - 2, 9000000000, 0},
+    {"an old day and a full count", 480, REPO, WORDS, {20030404, UINT32_MAX}, 0, 0, 18, 15000, 0},
+    {"the day before the memo's, count 0", 480, REPO, WORDS, {20230127, 0}, 0, 0, 18, 15000, 0},
+    {"the first open day", 480, REPO, WORDS, {20000103, 3}, 0, 0, 18, 15000, 0},
+    {"the last but one", 480, REPO, WORDS, {20391229, 3}, 0, 0, 18, 15000, 0},
+    {"a Saturday that is open", 480, REPO, WORDS, {20230401, 3}, 279, 1, 18, 15000, 0},
+    {"no calendar", 0, REPO, WORDS, {20230331, 3}, 0, 0, 18, 15000, 1},
+    {"479 words of the calendar", 479, REPO, WORDS, {20230331, 3}, 0, 0, 18, 15000, 1},
+    {"481 words of the calendar", 481, REPO, WORDS, {20230331, 3}, 0, 0, 18, 15000, 1},
+    {"no saved words", 480, 0, WORDS, {20230331, 3}, 0, 0, 18, 15000, 1},
+    {"4,095 saved words", 480, REPO - 1, WORDS, {20230331, 3}, 0, 0, 18, 15000, 1},
+    {"4,097 saved words", 480, REPO + 1, WORDS, {20230331, 3}, 0, 0, 18, 15000, 1},
+    {"8,192 saved words", 480, WORDS, WORDS, {20230331, 3}, 0, 0, 18, 15000, 1},
+    {"no balances", 480, REPO, 0, {20230331, 3}, 0, 0, 18, 15000, 1},
+    {"4,096 balances", 480, REPO, REPO, {20230331, 3}, 0, 0, 18, 15000, 1},
+    {"8,191 balances", 480, REPO, WORDS - 1, {20230331, 3}, 0, 0, 18, 15000, 1},
+    {"8,193 balances", 480, REPO, WORDS + 1, {20230331, 3}, 0, 0, 18, 15000, 1},
+    {"a bit for 31 April", 480, REPO, WORDS, {20230331, 3}, 279, UINT32_C(1) << 30, 18, 15000, 2},
+    {"bit 31 of the first month", 480, REPO, WORDS, {20230331, 3}, 0, UINT32_C(1) << 31, 18, 15000, 2},
+    {"bit 31 of the last month", 480, REPO, WORDS, {20230331, 3}, 479, UINT32_C(1) << 31, 18, 15000, 2},
+    {"a closed day", 480, REPO, WORDS, {20230401, 3}, 0, 0, 18, 15000, 4},
+    {"a Friday that is closed", 480, REPO, WORDS, {20230331, 3}, 278, UINT32_C(1) << 30, 18, 15000, 4},
+    {"the last open day", 480, REPO, WORDS, {20391230, 3}, 0, 0, 18, 15000, 4},
+    {"no date", 480, REPO, WORDS, {20230431, 3}, 0, 0, 18, 15000, 4},
+    {"day 0", 480, REPO, WORDS, {0, 3}, 0, 0, 18, 15000, 4},
+    {"the largest day", 480, REPO, WORDS, {UINT32_MAX, 3}, 0, 0, 18, 15000, 4},
+    {"an account's loan to itself", 480, REPO, WORDS, {20230331, 3}, 0, 0, 17, 1, 4},
+    {"one in the first word", 480, REPO, WORDS, {20230331, 3}, 0, 0, 0, 1, 4},
+    {"one in the last word", 480, REPO, WORDS, {20230331, 3}, 0, 0, REPO - 1, 1, 4},
+    {"9,000,000,001 on loan", 480, REPO, WORDS, {20230331, 3}, 0, 0, 19, 9000000001, 4},
+    {"9,000,000,001 at the end", 480, REPO, WORDS, {20230331, 3}, 0, 0, REPO - 2, 9000000001, 4},
+    {"2 to the 34th on loan", 480, REPO, WORDS, {20230331, 3}, 0, 0, 19, UINT64_C(1) << 34, 4},
+    {"the largest word on loan", 480, REPO, WORDS, {20230331, 3}, 0, 0, 1, UINT64_MAX, 4},
+    {"a bad calendar of 479 words", 479, REPO, WORDS, {20230331, 3}, 0, UINT32_C(1) << 31, 18, 15000, 1},
+    {"4,095 saved words and a bad calendar", 480, REPO - 1, WORDS, {20230331, 3}, 0, UINT32_C(1) << 31, 18, 15000, 1},
+    {"8,191 balances and a bad calendar", 480, REPO, WORDS - 1, {20230331, 3}, 0, UINT32_C(1) << 31, 18, 15000, 1},
+    {"479 words of the calendar and a closed day", 479, REPO, WORDS, {20230401, 3}, 0, 0, 18, 15000, 1},
+    {"8,191 balances and a bad word", 480, REPO, WORDS - 1, {20230331, 3}, 0, 0, 17, 1, 1},
+    {"4,095 saved words and a bad one", 480, REPO - 1, WORDS, {20230331, 3}, 0, 0, 17, 1, 1},
+    {"a bad calendar and a closed day", 480, REPO, WORDS, {20230401, 3}, 0, UINT32_C(1) << 31, 18, 15000, 2},
+    {"a bad calendar and a bad word", 480, REPO, WORDS, {20230331, 3}, 479, UINT32_C(1) << 31, 17, 1, 2},
+    {"a closed day and a bad word", 480, REPO, WORDS, {20230401, 3}, 0, 0, 17, 1, 4},
+};
+
+/* Carries each saved book over to balances that hold this word everywhere. Accepted, they are the saved words and zeros; refused, they are
+   as they were. The book comes back as given, and the saved words stay. */
+static void check_saved_books(uint64_t held) {
+    static uint32_t months[CLAIM_TRACKER_CALENDAR_WORDS + 1];
+    static uint64_t saved[WORDS], lent[WORDS], found[WORDS + 1], wanted[WORDS + 1];
+    for (size_t i = 0; i < sizeof saved_books / sizeof *saved_books; i++) {
+        memcpy(months, calendar, sizeof calendar);
+        months[saved_books[i].month] ^= saved_books[i].bits;
+        memset(lent, 0, sizeof lent);
+        lent[18] = 15000;
+        lent[saved_books[i].place] = saved_books[i].word;
+        memcpy(saved, lent, sizeof saved);
+        for (size_t at = 0; at <= WORDS; at++) found[at] = wanted[at] = held;
+        struct claim_tracker_book book = saved_books[i].book;
+        struct claim_tracker_done done =
+            claim_tracker_carry_over(months, saved_books[i].calendar_words, book, lent, saved_books[i].saved_words, found,
+                                     saved_books[i].balance_words);
+        if (saved_books[i].number == 0) {
+            memset(wanted, 0, sizeof *wanted * WORDS);
+            memcpy(wanted, saved, sizeof *wanted * REPO);
+        }
+        check(saved_books[i].name, done.number == saved_books[i].number && done.claims == 0);
+        check(saved_books[i].name, done.book.day == book.day && done.book.count == book.count);
+        check(saved_books[i].name, memcmp(found, wanted, sizeof found) == 0);
+        check(saved_books[i].name, memcmp(lent, saved, sizeof lent) == 0);
+    }
+}
+
+/* Work on the carried book, by both forms: what was lent before the move goes on, and a repo begins at zero. */
+static void check_carried_book(void) {
+    static const uint8_t close[CLAIM_TRACKER_CLOSE_BYTES] = {2, 0, 2, 0};
+    static const struct claim_tracker_transfer_fields back = {2, 1, 0, 0, CLAIM_TRACKER_CODE_CLSL, 5000},
+                                                      too_much = {2, 1, 0, 0, CLAIM_TRACKER_CODE_CLSL, 10001},
+                                                      repo_back = {2, 1, 0, 0, CLAIM_TRACKER_CODE_CLRP, 1},
+                                                      repo = {1, 2, 0, 0, CLAIM_TRACKER_CODE_RPST, 30000};
+    static uint64_t saved[CLAIM_TRACKER_LENDING_WORDS];
+    uint8_t message[CLAIM_TRACKER_TRANSFER_BYTES], claims[CLAIM_TRACKER_CLAIM_ROOM(2)];
+    saved[16 * 1 + 2] = 15000;
+    for (int form = 0; form < 3; form++) {
+        memset(balances, 7, sizeof balances);
+        struct claim_tracker_done done =
+            claim_tracker_carry_over(calendar, 480, (struct claim_tracker_book){20230331, 3}, saved, REPO, balances, WORDS);
+        check("a book carried over", done.number == 0 && done.book.day == 20230331 && done.book.count == 3 && done.claims == 0);
+        write_tagged(message, back, "");
+        done = by_form(form, done.book, ones, 16, message, claims, 0);
+        check("a return on it", done.number == 0 && done.book.count == 4 && done.claims == 0 && balances[16 * 1 + 2] == 10000);
+        write_tagged(message, too_much, "");
+        check("one above the rest", by_form(form, done.book, ones, 16, message, claims, 0).number == 7);
+        write_tagged(message, repo_back, "");
+        check("a repo's close of nothing", by_form(form, done.book, ones, 16, message, claims, 0).number == 7);
+        memset(claims, 0xaa, sizeof claims);
+        struct claim_tracker_done closed =
+            claim_tracker_close(calendar, 480, tables, 1824, done.book, balances, WORDS, close, sizeof close, claims, sizeof claims);
+        struct claim_tracker_claim_reading claim = claim_tracker_read_claim(claims, sizeof claims);
+        check("its close of 20230331", closed.number == 0 && closed.book.day == 20230403 && closed.book.count == 4 && closed.claims == 1);
+        check("April's claim on 10,000", claim.number == 0 && claim.claim.claim_type == CLAIM_TRACKER_CLAIM_TYPE_LENDING
+                                             && claim.claim.outcome == 0 && claim.claim.payer == 2 && claim.claim.payee == 1
+                                             && claim.claim.security == 0 && claim.claim.row == 0 && claim.claim.transfer == 0
+                                             && claim.claim.interest == 5000 && claim.claim.principal == 0
+                                             && claim.claim.release == 20230417 && claim.claim.slot == 3 && claims[35] == 0xaa);
+        write_tagged(message, repo, "");
+        done = by_form(form, done.book, ones, 16, message, claims, 0);
+        check("a repo's start on it", done.number == 0 && done.book.count == 5 && balances[16 * 1 + 2] == 10000
+                                          && balances[REPO + 16 * 1 + 2] == 30000);
+        closed = claim_tracker_close(calendar, 480, tables, 1824, done.book, balances, WORDS, close, sizeof close, claims, sizeof claims);
+        check("the loan's claim and the repo's", closed.number == 0 && closed.claims == 2
+                                                     && claim_tracker_read_claim(claims, 35).claim.interest == 5000
+                                                     && claim_tracker_read_claim(claims + 35, 35).claim.interest == 15000);
+    }
+}
+
 static const uint8_t expected[41] = {0x21, 0x00, 0x03, 0x00, 0x01, 0x00, 0x01, 0x02, 0x00, 0x00, 0x01, 0x00, 0x00, 0x00,
                                      0xA0, 0x86, 0x01, 0x00, 0x00, 0x00, 0x00, 0x00, 0x00, 0x00, 0x00, 0x00, 0x00, 0x00,
                                      0x00, 0x00, 0x11, 0xB1, 0x34, 0x01, 0x03, 0x04, 0x00, 0x04, 0x00, 0x00, 0x00};
@@ -548,6 +679,11 @@ int main(void) {
     check("four limits before fifteen pieces", done.number == 12 && done.claims == 0);
     done = claim_tracker_transfer(calendar, 480, tables, 1824, ones, 15, book, balances, WORDS, message, sizeof message, two, sizeof two);
     check("fifteen pieces before a closed day", done.number == 13 && done.book.day == 20230402 && done.claims == 0);
+
+    check_saved_books(7);
+    check_saved_books(UINT64_MAX);
+    check_saved_books(0);
+    check_carried_book();
 
     half_year_tables();
     check_days();

@@ -12,18 +12,30 @@ import common  # noqa: E402
 FIRST_CLAIM = """0 accepted, transfer 1
 account 1 pays account 2 100000 cents of interest on 20230417
 """
+CARRY_OVER = """carry over: 0 accepted, day 20230331, transfer 3
+return of 5,000: 0 accepted, day 20230331, transfer 4
+close: 0 accepted, day 20230403, transfer 4
+account 2 pays account 1 5000 cents of interest on 20230417
+"""
 STORED = ("closed-opening-day", "full-output", "fill-points-at", "many-reads")
 ROOM = common.RECORD_ROOM
 
 
 class Examples(building.Library):
-    def test_first_claim(self):
+    def prints(self, source, words):
+        """A program without arguments prints these words, however it is compiled."""
         for compiler in building.c_compilers():
             for standard in ("c99", "c11"):
                 with self.subTest(compiler=compiler, standard=standard):
-                    program = self.build("examples/first_claim.c", "-std=" + standard, compiler=compiler)
+                    program = self.build(source, "-std=" + standard, compiler=compiler)
                     run = subprocess.run([program], capture_output=True, text=True, timeout=building.SECONDS)
-                    self.assertEqual((run.returncode, run.stderr, run.stdout), (0, "", FIRST_CLAIM))
+                    self.assertEqual((run.returncode, run.stderr, run.stdout), (0, "", words))
+
+    def test_first_claim(self):
+        self.prints("examples/first_claim.c", FIRST_CLAIM)
+
+    def test_carry_over(self):
+        self.prints("examples/carry_over.c", CARRY_OVER)
 
     def test_readme_shows_the_first_claim(self):
         shown = "".join("    " + line for line in FIRST_CLAIM.splitlines(keepends=True))

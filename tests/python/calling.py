@@ -23,17 +23,18 @@ class Caller:
     def __init__(self):
         self.words = {"calendar": array("I", bytes(4 * 2 * claim_tracker.CALENDAR_WORDS)),
                       "tables": array("I", bytes(4 * 2 * claim_tracker.TABLE_WORDS)),
-                      "balances": array("Q", bytes(8 * 2 * claim_tracker.BALANCE_WORDS))}
+                      "balances": array("Q", bytes(8 * 2 * claim_tracker.BALANCE_WORDS)),
+                      "saved": array("Q", bytes(8 * 2 * claim_tracker.LENDING_WORDS))}
         self.lengths = [claim_tracker.CALENDAR_WORDS, claim_tracker.TABLE_WORDS, claim_tracker.BALANCE_WORDS]
         self.book = claim_tracker.Book(0)
         self.pieces = {}
 
     def lent(self):
-        """Calendar, tables and balances, as much of them as the lengths say."""
+        """Calendar, tables and balances, as much of them as the three lengths say."""
         return [memoryview(words)[:length] for words, length in zip(self.words.values(), self.lengths)]
 
-    def sum(self):
-        return "%08x" % zlib.crc32(self.words["balances"].tobytes())
+    def sum(self, name="balances"):
+        return "%08x" % zlib.crc32(self.words[name].tobytes())
 
     def left(self, buffer, written):
         return "book %d %d %s %08x %s" % (self.book.day, self.book.count, hexed(buffer[:written]), zlib.crc32(buffer), self.sum())
@@ -56,6 +57,8 @@ class Caller:
             done = claim_tracker.open(calendar, tables, balances, int(words[0]))
             self.book = done.book
             return "open %d claims %d book %d %d %s" % (done.number, done.claims, self.book.day, self.book.count, self.sum())
+        elif name == "carry_over":
+            return self.carry_over(int(words[0]))
         elif name.startswith("read_"):
             return self.read(name, bytes_of(words[0]))
         elif name.startswith("write_"):
@@ -65,6 +68,13 @@ class Caller:
         else:
             return self.call(name, *words)
         return None
+
+    def carry_over(self, count):
+        calendar, _, balances = self.lent()
+        done = claim_tracker.carry_over(calendar, self.book, memoryview(self.words["saved"])[:count], balances)
+        self.book = done.book
+        return "carry_over %d claims %d book %d %d %s %s" % (
+            done.number, done.claims, self.book.day, self.book.count, self.sum("saved"), self.sum())
 
     def call(self, name, *words):
         *limits, room, message = words

@@ -159,6 +159,31 @@ def edge_calls():
     return lines + ["text %d" % number for number in range(200)] + ["text 65535"]
 
 
+def carry_over_calls(count, seed):
+    """A list of carry overs, most of them right but for one thing, to balances that hold other words, each with a return and a close behind
+    it."""
+    choice = random.Random(seed)
+
+    def mostly(usual, *others):
+        return choice.choice(others) if choice.random() < 0.1 else usual
+
+    lines = book_lines()
+    for _ in range(count):
+        place, month = choice.randrange(claim_tracker.LENDING_WORDS), choice.randrange(claim_tracker.CALENDAR_WORDS)
+        par = 0 if place // 16 % 16 == place % 16 else choice.randrange(9000000001)
+        lines += ["balances %d %d" % (choice.randrange(claim_tracker.BALANCE_WORDS), choice.getrandbits(64)),
+                  "saved 18 %d" % mostly(15000, 4999, 9000000000, 9000000001),
+                  "saved %d %d" % (place, mostly(par, 1, 9000000000, 9000000001, 2 ** 64 - 1)),
+                  "calendar %d %d" % (month, CALENDAR[month] ^ mostly(0, 1 << 31, 1 << 30, 1 << 28, 1)),
+                  "lengths %d 1824 %d" % (mostly(480, 0, 479, 481), mostly(8192, 0, 4096, 8191, 8193)),
+                  "book %d %d" % (mostly(20230331, 20030404, 20230401, 20391229, 20391230, 0, 4294967295), mostly(3, 0, 4294967295)),
+                  "carry_over %d" % mostly(4096, 0, 4095, 4097, 8192),
+                  "lengths 480 1824 8192",
+                  "transfer 0 " + transfer_hex(2, 1, 0, 0, 3, 5000), "close_in 9000 02000200",
+                  "calendar %d %d" % (month, CALENDAR[month]), "saved %d 0" % place]
+    return lines
+
+
 class AgainstC(building.Library):
     """The same list of calls through the C caller and through the module."""
     maxDiff = 2000
@@ -187,6 +212,12 @@ class AgainstC(building.Library):
         days = [(int(line.split(" book ")[1].split()[0]), int(line.split()[1])) for line in found]
         self.assertEqual({day < 20230130 for day, number in days if number == 15}, {True})
         self.assertGreater(days[-1][0], 20230130)
+
+    def test_carry_overs(self):
+        """Each number of a carry over occurs, and what is carried over is returned and claimed."""
+        found = self.same(carry_over_calls(300, 13))
+        self.assertEqual({int(line.split()[1]) for line in found if line.startswith("carry_over")}, {0, 1, 2, 4})
+        self.assertTrue(any(line.startswith("close_in 0 ") and "2100030003" in line for line in found))
 
     def has_everything(self, found, *others):
         """What a random list is to show: these numbers and the usual ones, claims, and runs that are over or full."""
@@ -233,7 +264,7 @@ class Calls(unittest.TestCase):
         self.assertEqual(bytes(output[:41]), common.EXPECTED)
 
     def test_half_a_book(self):
-        """Balances of loans alone get 1 from every call, and nothing changes."""
+        """Balances of loans alone get 1 from every call on a book, and nothing changes."""
         half, own, room = array("Q", [0]) * (claim_tracker.BALANCE_WORDS // 2), Book(DAY), bytearray(claim_tracker.RECORD_ROOM)
         self.assertEqual(claim_tracker.open(CALENDAR, TABLES, half, DAY), (Number.WRONG_LENGTH, Book(20000101), 0))
         limits = array("I", [7, 6, 3, 2, 1])
@@ -639,6 +670,182 @@ class BeforeTheMemo(unittest.TestCase):
         self.assertEqual(sum(claim.interest for claim in claims), 650000)
 
 
+class CarryOver(unittest.TestCase):
+    """A book saved on 20230331 with the balances on loan alone: 3 transfers, and 15,000 from account 1 to account 2."""
+    BOOK = Book(20230331, 3)
+    EMPTY = bytes(8 * claim_tracker.LENDING_WORDS)
+
+    def setUp(self):
+        self.calendar, self.saved = CALENDAR[:], array("Q", self.EMPTY)
+        self.saved[18] = 15000
+
+    def number(self, book=BOOK, held=7, words=claim_tracker.BALANCE_WORDS):
+        """The number of a carry over to balances that hold a word everywhere. Accepted, they are the saved ones and zeros; refused, they are
+        as they were. The book comes back as given, and the saved ones stay."""
+        balances, given, saved = array("Q", [held]) * words, Book(book.day, book.count), self.saved.tobytes()
+        before = balances.tobytes()
+        done = claim_tracker.carry_over(self.calendar, given, self.saved, balances)
+        self.assertEqual((done.book, given, done.claims), (book, book, 0))
+        self.assertTrue(self.saved.tobytes() == saved, "the saved words changed")
+        self.assertTrue(balances.tobytes() == (before if done.number else saved + self.EMPTY), "number %d, wrong balances" % done.number)
+        return done.number
+
+    def carried(self, book=BOOK):
+        """The balances of the carried book."""
+        balances = array("Q", [7]) * claim_tracker.BALANCE_WORDS
+        self.assertEqual(claim_tracker.carry_over(self.calendar, book, self.saved, balances), (0, book, 0))
+        return balances
+
+    def test_accepted(self):
+        """Whatever the balances hold, and with any count."""
+        for held, count in itertools.product((0, 7, 9000000001, 2 ** 64 - 1), (0, 3, 2 ** 32 - 1)):
+            self.assertEqual(self.number(Book(20230331, count), held), 0)
+        self.assertEqual(self.number(Book(20030404, 2 ** 32 - 1)), 0)
+        self.saved = array("Q", [0 if place // 16 % 16 == place % 16 else 9000000000 - place for place in range(4096)])
+        self.assertEqual(self.number(), 0)
+        self.saved = array("Q", self.EMPTY)
+        self.assertEqual(self.number(), 0)
+
+    def test_every_word(self):
+        """A balance is at most 9,000,000,000, and 0 where an account would lend itself."""
+        for place in range(claim_tracker.LENDING_WORDS):
+            before = self.saved[place]
+            own = place // 16 % 16 == place % 16
+            for word, number in ((1, 4 if own else 0), (9000000000, 4 if own else 0), (9000000001, 4)):
+                self.saved[place] = word
+                self.assertEqual(self.number(), number, (place, word))
+            self.saved[place] = before
+        for word in (1 << 34, 1 << 63, 2 ** 64 - 1):
+            self.saved[19] = word
+            self.assertEqual(self.number(), Number.BAD_BOOK, word)
+
+    def test_every_day(self):
+        """Every day from 2000 to 2039 that is open, but the last; no other number."""
+        first, last = datetime.date(2000, 1, 1), datetime.date(2039, 12, 31)
+        days = [first + datetime.timedelta(days) for days in range((last - first).days + 1)]
+        numbers = {10000 * day.year + 100 * day.month + day.day: day.weekday() < 5 for day in days}
+        numbers[20391230] = False
+        numbers |= dict.fromkeys((0, 1, 19991231, 20000100, 20230229, 20230431, 20231301, 20400102, 2 ** 32 - 1), False)
+        for number, good in numbers.items():
+            self.assertEqual(self.number(Book(number, 3)), 0 if good else Number.BAD_BOOK, number)
+
+    def test_lengths(self):
+        """480 words of the calendar, 4,096 saved balances and 8,192 balances, and no other numbers."""
+        words, saved = self.calendar, self.saved
+        for calendar, count, balances in itertools.product((480, 0, 479, 481), (4096, 0, 4095, 4097, 8192), (8192, 0, 4096, 8191, 8193)):
+            self.calendar, self.saved = (words + array("I", [0]))[:calendar], (saved + saved)[:count]
+            number = 0 if (calendar, count, balances) == (480, 4096, 8192) else Number.WRONG_LENGTH
+            self.assertEqual(self.number(words=balances), number, (calendar, count, balances))
+
+    def test_every_month(self):
+        """A bit for a day that the month lacks is refused."""
+        for place, month in enumerate(Dates.MONTHS):
+            before = self.calendar[place]
+            for bit in range(28, 32):
+                self.calendar[place] = before | 1 << bit
+                self.assertEqual(self.number(), 0 if bit < monthrange(*month)[1] else Number.BAD_CALENDAR, (month, bit))
+            self.calendar[place] = before
+
+    def test_order(self):
+        """1 before 2 before 4."""
+        closed = Book(20230401, 3)
+        for place, word in ((18, 15000), (17, 1), (19, 9000000001)):
+            self.saved[place] = word
+            for book in (self.BOOK, closed):
+                self.calendar[0] |= 1 << 31
+                self.assertEqual(self.number(book, words=8191), Number.WRONG_LENGTH)
+                self.assertEqual(self.number(book), Number.BAD_CALENDAR)
+                self.calendar[0] &= ~(1 << 31)
+                self.assertEqual(self.number(book, words=8191), Number.WRONG_LENGTH)
+                self.assertEqual(self.number(book), 0 if book is self.BOOK and place == 18 else Number.BAD_BOOK)
+            self.saved[place] = 15000 if place == 18 else 0
+
+    def test_return_and_close(self):
+        """5,000 come back and the other 10,000 are claimed: by calls, on the own book, and by a run."""
+        message, close = bytes.fromhex(transfer_hex(2, 1, 0, 0, 3, 5000)), b"\2\0\2\0"
+        claim = Claim(ClaimType.LENDING, 0, 2, 1, 0, 0, 0, 5000, 0, 20230417, 3)
+        balances, claims = self.carried(), bytearray(70)
+        done = claim_tracker.transfer(CALENDAR, TABLES, self.BOOK, balances, message, bytearray())
+        self.assertEqual((done, balances[18]), ((0, Book(20230331, 4), 0), 10000))
+        done = claim_tracker.close(CALENDAR, TABLES, done.book, balances, close, claims)
+        self.assertEqual((done, claim_tracker.read_claim(claims).claim), ((0, Book(20230403, 4), 1), claim))
+        balances, claims, own = self.carried(), bytearray(70), Book(20230331, 3)
+        self.assertEqual(claim_tracker.transfer_in(CALENDAR, TABLES, own, balances, message, bytearray()), (0, 0))
+        self.assertEqual(claim_tracker.close_in(CALENDAR, TABLES, own, balances, close, claims), (0, 1))
+        self.assertEqual((own, claim_tracker.read_claim(claims).claim), (Book(20230403, 4), claim))
+        output = bytearray(2 * claim_tracker.RECORD_ROOM)
+        served = claim_tracker.serve(CALENDAR, TABLES, self.BOOK, self.carried(), message + close, True, output)
+        self.assertEqual((served.number, served.book, served.written), (0, Book(20230403, 4), 47))
+        self.assertEqual(claim_tracker.read_claim(output[6:]).claim, claim)
+
+    def test_lending_on_both_sides(self):
+        """Loans of many pairs saved, then loans, returns and closes in security 0: each balance is what was lent before and since, less what
+        came back, and is claimed at the close of 20230331 and at that of 20230428. Nothing is on repo."""
+        choice = random.Random(14)
+        pairs = [(lender, borrower) for lender in range(16) for borrower in range(16) if lender != borrower]
+        lent = {pair: choice.randrange(200000) for pair in choice.sample(pairs, 60)}
+        for (lender, borrower), par in lent.items():
+            self.saved[16 * lender + borrower] = par
+        lent[1, 2] = lent.get((1, 2), 15000)
+        balances, book, closes, numbers = self.carried(), self.BOOK, [], set()
+        while len(closes) < 22:
+            for _ in range(20):
+                code, par, pair = choice.randrange(1, 7), choice.randrange(1, 150000), choice.choice(pairs)
+                lender, borrower = pair
+                after = lent.get(pair, 0) + (par if code in (1, 4, 5) else -par)
+                number = 0 if after >= 0 else Number.ABOVE_BALANCE
+                parties = pair if code in (1, 4, 5) else (borrower, lender)
+                message = bytes.fromhex(transfer_hex(*parties, 0, 0, code, par))
+                done = claim_tracker.transfer(CALENDAR, TABLES, book, balances, message, bytearray())
+                self.assertEqual(done, (number, Book(book.day, book.count + (number == 0)), 0))
+                if number == 0:
+                    lent[pair] = after
+                numbers.add(number)
+                book = done.book
+            claims = bytearray(claim_tracker.claim_room(len(pairs)))
+            done = claim_tracker.close(CALENDAR, TABLES, book, balances, b"\2\0\2\0", claims)
+            found = [claim_tracker.read_claim(claims[35 * at:]).claim for at in range(done.claims)]
+            row = {20230331: 0, 20230428: 1}.get(book.day)
+            wanted = []
+            if row is not None:
+                release = (20230417, 20230515)[row]
+                for (lender, borrower), par in sorted(lent.items()):
+                    cents = (par * 5000000 + 5000000) // 10000000
+                    settled = (0, release, 3) if cents else (1, 0, 0)
+                    if par:
+                        wanted.append(Claim(3, settled[0], borrower, lender, 0, row, 0, cents, 0, *settled[1:]))
+            self.assertEqual((done.number, found), (0, wanted), book.day)
+            self.assertEqual(list(balances[:256]), [lent.get((place // 16, place % 16), 0) for place in range(256)])
+            book = done.book
+            closes.append(done.claims)
+        self.assertEqual((numbers, set(balances[256:])), ({0, Number.ABOVE_BALANCE}, {0}))
+        self.assertEqual([place for place, count in enumerate(closes) if count > 60], [0, 20])
+
+    def test_repo_behind_it(self):
+        """A repo begins at zero and is claimed beside the loan."""
+        balances, claims = self.carried(), bytearray(70)
+        for sender, receiver, code, par, number in ((2, 1, 9, 1, Number.ABOVE_BALANCE), (1, 2, 7, 30000, 0), (2, 1, 9, 30001, 7)):
+            message = bytes.fromhex(transfer_hex(sender, receiver, 0, 0, code, par))
+            self.assertEqual(claim_tracker.transfer(CALENDAR, TABLES, self.BOOK, balances, message, bytearray()).number, number)
+        self.assertEqual(claim_tracker.close(CALENDAR, TABLES, self.BOOK, balances, b"\2\0\2\0", claims).claims, 2)
+        found = [claim_tracker.read_claim(claims[35 * at:]).claim for at in range(2)]
+        self.assertEqual([(claim.claim_type, claim.interest) for claim in found], [(ClaimType.LENDING, 7500), (ClaimType.REPO, 15000)])
+
+    def test_before_the_memo(self):
+        """A book of an old day: what it has on loan is claimed at its closes, lending gets 15, and from the memo's day on it comes back."""
+        tables, book = monthly_tables(), Book(20221110, 3)
+        balances, claims = self.carried(book), bytearray(70)
+        message = bytes.fromhex(transfer_hex(2, 1, 0, 0, 3, 5000))
+        self.assertEqual(claim_tracker.transfer(CALENDAR, tables, book, balances, message, bytearray()),
+                         (Number.LENDING_TOO_EARLY, book, 0))
+        done = claim_tracker.close(CALENDAR, tables, book, balances, b"\2\0\2\0", claims)
+        self.assertEqual((done, claim_tracker.read_claim(claims).claim),
+                         ((0, Book(20221111, 3), 1), Claim(ClaimType.LENDING, 0, 2, 1, 0, 7, 0, 7500, 0, 20221125, 3)))
+        later = Book(20230130, 3)
+        self.assertEqual(claim_tracker.transfer(CALENDAR, tables, later, self.carried(later), message, bytearray()),
+                         (0, Book(20230130, 4), 0))
+
+
 class Largest(unittest.TestCase):
     """The sizes of claim buffers that FORMATS.md names: each is reached, and a byte less is too short."""
     DAYS = 20230102, 20230301, 20230302, 20230303
@@ -746,7 +953,8 @@ class Names(unittest.TestCase):
         kinds = {"uint16_t": ctypes.c_uint16, "uint32_t": ctypes.c_uint32, "bool": ctypes.c_bool, declarations.COUNT: ctypes.c_size_t}
         for form, name in declarations.STRUCTS.items():
             kinds |= {"struct " + name: self.struct(form), "struct %s *" % name: ctypes.POINTER(self.struct(form))}
-        kinds |= {kind: ctypes.c_void_p for kind in ("const uint32_t *", "uint64_t *", "const uint8_t *", "uint8_t *", "const uint8_t[64]")}
+        kinds |= {kind: ctypes.c_void_p for kind in ("const uint32_t *", "const uint64_t *", "uint64_t *", "const uint8_t *", "uint8_t *",
+                                                     "const uint8_t[64]")}
         functions = declarations.header_functions()
         self.assertEqual(sorted(functions), sorted("claim_tracker_" + name for name in claim_tracker._CALLS))
         for name, (returned, arguments) in functions.items():
@@ -807,6 +1015,24 @@ class Refusals(unittest.TestCase):
                          **self.good(pieces=memoryview(self.balances).cast("B")[:64].cast("I")))
         for call in (claim_tracker.close, claim_tracker.close_in):
             self.refused(TypeError, r"unexpected keyword argument 'pieces'", call, **self.good(pieces=claim_tracker.new_pieces()))
+
+    def test_carry_over(self):
+        def good(**changed):
+            return {"calendar": CALENDAR, "book": self.book, "saved": saved, "balances": self.balances} | changed
+
+        call, saved = claim_tracker.carry_over, array("Q", bytes(8 * claim_tracker.LENDING_WORDS))
+        for given in (None, "text", [0] * claim_tracker.LENDING_WORDS, bytes(saved), CALENDAR, array("q", bytes(8)), memoryview(saved)[::2]):
+            for name in ("saved", "balances"):
+                self.refused(TypeError, r"\A%s: .*; allowed: 64-bit words" % name, call, **good(**{name: given}))
+        self.refused(TypeError, r"\Acalendar: .*; allowed: 32-bit words", call, **good(calendar=saved))
+        self.refused(TypeError, r"\Abalances: cannot be written to", call, **good(balances=memoryview(bytes(65536)).cast("Q")))
+        self.refused(TypeError, r"\Abook: of type int; allowed: Book", call, **good(book=DAY))
+        self.refused(ValueError, r"\Abook.count: ", call, **good(book=Book(DAY, 2 ** 32)))
+        both = memoryview(self.balances)
+        for part in (both[:claim_tracker.LENDING_WORDS], both[claim_tracker.LENDING_WORDS:], both[-1:]):
+            self.refused(ValueError, r"\Abalances and saved overlap\Z", call, **good(saved=part))
+        self.refused(ValueError, r"\Abalances and calendar overlap\Z", call, **good(calendar=both.cast("B")[:1920].cast("I")))
+        self.assertEqual(call(**good(saved=memoryview(bytes(saved)).cast("Q"))), (0, self.book, 0))
 
     def test_overlaps(self):
         call = claim_tracker.transfer

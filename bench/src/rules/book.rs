@@ -38,7 +38,7 @@ fn judge_day(calendar: &Calendar, day: u32) -> Result<(), u16> {
     Ok(())
 }
 
-fn judge_balances(balances: &Balances) -> Result<(), u16> {
+fn judge_balances<const WORDS: usize>(balances: &[u64; WORDS]) -> Result<(), u16> {
     let too_large = balances.iter().any(|&par| par > MOST_LENT);
     let own = balances.as_chunks::<256>().0.iter().flat_map(|pars| pars.iter().step_by(17));
     let own = own.fold(0, |all, &par| all | par);
@@ -188,6 +188,35 @@ pub fn open(calendar: &[u32], tables: &[u32], balances: &mut [u64], day: u32) ->
             Done { number: 0, book: Book { day, count: 0 }, claims: 0 }
         }
         Err(number) => refused(number, Book { day: days::FIRST, count: 0 }),
+    }
+}
+
+/// The par on loan of a saved book, where calendar, day and par keep their rules.
+fn judge_saved<'a>(calendar: &[u32], day: u32, saved: &'a [u64]) -> Result<&'a [u64; TRACKING_WORDS], u16> {
+    let (Ok(calendar), Ok(saved)) = (calendar.try_into(), saved.try_into()) else {
+        return Err(1);
+    };
+    if !days::is_sound(calendar) {
+        return Err(2);
+    }
+    judge_day(calendar, day)?;
+    judge_balances::<TRACKING_WORDS>(saved)?;
+    Ok(saved)
+}
+
+/// Carries a book over that was saved with the par on loan alone: nothing is on repo, and day and count stay.
+pub fn carry_over(calendar: &[u32], book: Book, saved: &[u64], balances: &mut [u64]) -> Done {
+    let Ok(balances) = <&mut Balances>::try_from(balances) else {
+        return refused(1, book);
+    };
+    match judge_saved(calendar, book.day, saved) {
+        Ok(saved) => {
+            let (on_loan, on_repo) = balances.split_at_mut(TRACKING_WORDS);
+            on_loan.copy_from_slice(saved);
+            on_repo.fill(0);
+            Done { number: 0, book, claims: 0 }
+        }
+        Err(number) => refused(number, book),
     }
 }
 

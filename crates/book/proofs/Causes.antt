@@ -14,7 +14,7 @@ use Rattle.lists.specs.First.{firstOf, numbered, appliesAt, cleared, hit, skip,
 use Rattle.days.specs.Days.{badCalendar, isOpen, openAfter}
 use Rattle.securities.specs.Securities.{goodTables}
 use Rattle.book.specs.Book.{Position, position}
-use Rattle.book.specs.Soundness.{wrongLength, badDay, goodBalance, goodBalancesFrom, badBalances, tableCauses, stateCauses, carryCauses}
+use Rattle.book.specs.Soundness.{wrongLength, badDay, goodBalance, goodBalancesFrom, badBalances, tableCauses, stateCauses, wrongCarry, carryCauses}
 
 -- ---- one of two tests
 
@@ -78,19 +78,20 @@ module _ (calendar tables balances : List ℕ) where
 
 module _ (calendar : List ℕ) (day : ℕ) (saved balances : List ℕ) where
   pub carry-calendar : (length calendar ≡ 480 → ⊥) → 1 ≡ firstOf (carryCauses calendar day saved balances)
-  unfolding carryCauses
+  unfolding carryCauses wrongCarry
   carry-calendar h = hit 1 _ (search (or-left, or-right, wrong (length calendar) 480 h) depth 4)
 
   pub carry-saved : (length saved ≡ 4096 → ⊥) → 1 ≡ firstOf (carryCauses calendar day saved balances)
-  unfolding carryCauses
+  unfolding carryCauses wrongCarry
   carry-saved h = hit 1 _ (search (or-left, or-right, wrong (length saved) 4096 h) depth 4)
 
   pub carry-balances : (length balances ≡ 8192 → ⊥) → 1 ≡ firstOf (carryCauses calendar day saved balances)
-  unfolding carryCauses
+  unfolding carryCauses wrongCarry
   carry-balances h = hit 1 _ (search (or-left, or-right, wrong (length balances) 8192 h) depth 4)
 
   module _ (a : length calendar ≡ 480) (b : length saved ≡ 4096) (c : length balances ≡ 8192) where
-    carry-lengths : (not (eqb (length calendar) 480) || not (eqb (length saved) 4096) || not (eqb (length balances) 8192)) ≡ false
+    carry-lengths : wrongCarry calendar saved balances ≡ false
+    unfolding wrongCarry
     carry-lengths = rw (eq-eqb (length calendar) 480 a, eq-eqb (length saved) 4096 b, eq-eqb (length balances) 8192 c)
 
     pub carry-bad-calendar : badCalendar calendar ≡ true → 2 ≡ firstOf (carryCauses calendar day saved balances)

@@ -1,5 +1,6 @@
 -- Computed rows: what each tracking code does to 8,192 balances, when it is refused, which par is off its piece (document 02, card 6),
--- which day is before lending (card 7), and which calendars, tables, days, balances and pieces are sound.
+-- which day is before lending (card 7), which calendars, tables, days, balances and pieces are sound, and which saved book can be carried
+-- over (card 8).
 use mathlib.Core.Path.{_≡_, refl}
 use mathlib.Core.Bool.{Bool, true, cond, _&&_}
 use mathlib.Core.List.{List, [], _∷_}
@@ -13,7 +14,7 @@ use Rattle.records.specs.declared.Transfer.{Transfer}
 use Rattle.securities.specs.Cases.{caseTables}
 use Rattle.securities.specs.Lent.{ones}
 use Rattle.book.specs.Loans.{changeOf, changed, aboveBalance, pastLimit, postingCauses}
-use Rattle.book.specs.Soundness.{bookCauses, lentBookCauses, openingCauses}
+use Rattle.book.specs.Soundness.{bookCauses, lentBookCauses, openingCauses, carryCauses}
 use Rattle.book.proofs.Opened.{openedBook}
 
 -- ---- loans
@@ -231,6 +232,30 @@ lentPieces =
     && eqb (pieceNumber weekdays caseTables published (set ones 15 1000001) 20230404 zeros) 13
     && eqb (pieceNumber weekdays caseTables published pieces 20230401 zeros) 4
 
-rows-hold : all holds rows && posted && early && judged && lent && lentPieces ≡ true
-unfolding openedBook held sent rows flag holds pieces odd postingOn posting posted early number zeros judged lentNumber published lent pieceNumber lentPieces
+-- carrying over: with 1 before 2, 2 before 4, and 4 for the day and for saved balances alone
+carryNumber : List ℕ → ℕ → List ℕ → List ℕ → ℕ
+carryNumber calendar day saved balances = firstOf (carryCauses calendar day saved balances)
+
+saved : List ℕ
+saved = replicate 4096 0
+
+carry : Bool
+carry =
+    eqb (carryNumber weekdays 20230404 (set saved 18 15000) zeros) 0
+    && eqb (carryNumber weekdays 20230404 saved (set zeros 0 1)) 0
+    && eqb (carryNumber weekdays 20030404 (set saved 4094 9000000000) zeros) 0
+    && eqb (carryNumber (replicate 479 4294967295) 20230401 saved zeros) 1
+    && eqb (carryNumber (set weekdays 1 4294967295) 20230401 (replicate 4095 1) zeros) 1
+    && eqb (carryNumber weekdays 20230404 zeros zeros) 1
+    && eqb (carryNumber weekdays 20230401 saved saved) 1
+    && eqb (carryNumber weekdays 20230404 saved (replicate 8193 0)) 1
+    && eqb (carryNumber (set weekdays 1 4294967295) 20230401 (set saved 17 1) zeros) 2
+    && eqb (carryNumber weekdays 20230401 saved zeros) 4
+    && eqb (carryNumber weekdays 20391230 saved zeros) 4
+    && eqb (carryNumber weekdays 20230404 (set saved 17 1) zeros) 4
+    && eqb (carryNumber weekdays 20230404 (set saved 4095 1) zeros) 4
+    && eqb (carryNumber weekdays 20230404 (set saved 19 9000000001) zeros) 4
+
+rows-hold : all holds rows && posted && early && judged && lent && lentPieces && carry ≡ true
+unfolding openedBook held sent rows flag holds pieces odd postingOn posting posted early number zeros judged lentNumber published lent pieceNumber lentPieces carryNumber saved carry
 rows-hold = refl

@@ -65,10 +65,13 @@ lentBookCauses calendar tables limits pieces day balances =
 unfoldable pub openingCauses : List ℕ → List ℕ → List ℕ → ℕ → List Cause
 openingCauses calendar tables balances day = tableCauses calendar tables balances ++ (cause 4 (badDay calendar day) ∷ [])
 
--- Carrying a book over can meet 1, 2 and 4: the calendar, the saved balances or those that it fills have a wrong length; the calendar is bad;
--- the book's day or a saved balance is. It is lent no tables, and what the balances that it fills hold does not matter.
+-- Calendar, saved balances or the balances that they are carried over to of wrong length: number 1.
+unfoldable pub wrongCarry : List ℕ → List ℕ → List ℕ → Bool
+wrongCarry calendar saved balances =
+    not (eqb (length calendar) calendarWords) || not (eqb (length saved) trackingWords) || not (eqb (length balances) balanceWords)
+
+-- Carrying a book over can meet 1, 2, and 4 for its day and its saved balances. It is lent no tables, and what the balances held does not
+-- matter.
 unfoldable pub carryCauses : List ℕ → ℕ → List ℕ → List ℕ → List Cause
 carryCauses calendar day saved balances =
-    cause 1 (not (eqb (length calendar) calendarWords) || not (eqb (length saved) trackingWords) || not (eqb (length balances) balanceWords))
-    ∷ cause 2 (badCalendar calendar)
-    ∷ stateCauses calendar day saved
+    cause 1 (wrongCarry calendar saved balances) ∷ cause 2 (badCalendar calendar) ∷ stateCauses calendar day saved

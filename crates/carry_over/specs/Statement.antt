@@ -1,6 +1,6 @@
 -- Document 02, card 8, in words. For every list of transfers without repo codes and closes, on every book and every 4,096 balances, sound or
 -- not: the calls on the balances with repo empty give the answers (numbers, books, claim counts and claim buffers) that they give in the
--- form with lending alone, and leave its balances with repo empty. So every list after an accepted move.
+-- form with lending alone, and leave its balances with repo empty. So every list after an accepted move, also as a caller makes its calls.
 -- A history that begins before the move counts on both sides of it: calls without repo codes in the form with lending alone, the move, which
 -- is accepted, then any calls. All answers, and the book and balances after the list, are those of the ledger of both lists, one behind the
 -- other: the par between two accounts, what the records pay and what the history owes.
@@ -13,12 +13,14 @@ use lib.Dec.{ltb, leb}
 use lib.ListN.{length}
 use Rattle.records.specs.MessageRecords.{transferOf}
 use Rattle.book.specs.declared.Book.{Book}
+use Rattle.book.specs.declared.Done.{Done}
 use Rattle.book.specs.Book.{balanceWords, trackingWords}
 use Rattle.history.specs.Calls.{Call, transfer, close}
-use Rattle.history.specs.Results.{Run, run, runFrom}
+use Rattle.history.specs.Results.{Run, leftOpen, run, followedBy, runFrom}
 use Rattle.history.specs.Ledger.{Ledger, started, judged}
 use Rattle.history.specs.Statement.{AgreesWithLedger}
 use Rattle.history.specs.Continuation.{GoesOn, Period, AllGoOn}
+use Rattle.history.specs.ByValue.{Step, AllKeep, runOf}
 use Rattle.carry_over.specs.CarriedOver.{widened, carried}
 use Rattle.carry_over.specs.LendingForm.{lendingRun, lendingOpened}
 
@@ -48,16 +50,20 @@ EveryLaterList = (calendar : List ℕ) (book : Book) (saved balances : List ℕ)
     → (later tables : List ℕ) (calls : List Call) → NoRepo calls
     → runFrom later tables (carried calendar book saved balances) calls ≡ withRepoEmpty (lendingRun later tables book saved calls)
 
--- ---- histories on both sides of the move
+-- As a caller makes them: the move keeps its contract and is accepted, and each call keeps its own on the book that the last one returned and
+-- the balances that it left.
+abbrev pub EveryLaterCall : Type 0
+EveryLaterCall = (calendar : List ℕ) (book : Book) (saved balances : List ℕ) (moved : Done) (filled : List ℕ)
+    → leftOpen moved filled ≡ carried calendar book saved balances → moved .number ≡ 0
+    → (later tables : List ℕ) (calls : List Call) (steps : List Step) → NoRepo calls → AllKeep later tables (moved .book) filled calls steps
+    → runOf (moved .book) filled steps ≡ withRepoEmpty (lendingRun later tables book saved calls)
 
--- What the calls before the move and those after it answer, and what the last one leaves.
-unfoldable pub together : Run → Run → Run
-together before after = record { answers = before .answers ++ after .answers; book = after .book; balances = after .balances }
+-- ---- histories on both sides of the move
 
 pub record CountsBothSides (calendar tables : List ℕ) (day : ℕ) (before after : List Call) (balances : List ℕ) (r : Run) : Type 0 where
   pub accepted : carried calendar (r .book) (r .balances) balances .number ≡ 0
   pub agrees : AgreesWithLedger calendar tables day (before ++ after)
-      (together r (runFrom calendar tables (carried calendar (r .book) (r .balances) balances) after))
+      (followedBy r (runFrom calendar tables (carried calendar (r .book) (r .balances) balances) after))
       (judged calendar tables (started day) (before ++ after))
 
 -- The balances that the move fills may hold anything.
@@ -66,6 +72,18 @@ EveryCarriedHistory = (calendar tables words : List ℕ) (day : ℕ) → lending
     → (before : List Call) → NoRepo before → (balances : List ℕ) → length balances ≡ balanceWords → (after : List Call)
     → (let start = lendingOpened calendar tables words day in
     CountsBothSides calendar tables day before after balances (lendingRun calendar tables (start .book) (start .balances) before))
+
+-- As a caller makes the move and the calls after it.
+abbrev pub EveryCarriedCall : Type 0
+EveryCarriedCall = (calendar tables words : List ℕ) (day : ℕ) → lendingOpened calendar tables words day .number ≡ 0
+    → (before : List Call) → NoRepo before → (balances : List ℕ) → length balances ≡ balanceWords
+    → (let start = lendingOpened calendar tables words day in
+    let r = lendingRun calendar tables (start .book) (start .balances) before in
+    (moved : Done) (filled : List ℕ) → leftOpen moved filled ≡ carried calendar (r .book) (r .balances) balances
+    → (after : List Call) (steps : List Step) → AllKeep calendar tables (moved .book) filled after steps
+    → (moved .number ≡ 0)
+    × AgreesWithLedger calendar tables day (before ++ after) (followedBy r (runOf (moved .book) filled steps))
+    (judged calendar tables (started day) (before ++ after)))
 
 -- ---- calendar and tables that change
 

@@ -30,7 +30,7 @@ module _ (calendar tables : List ℕ) where
       ∙ ap (λ now. from now (run calendar tables (now .answer .book) (now .balances) calls)) (all .0)
 
   -- behind an opening that keeps its contract
-  runs-from : (start : Done) (cleared : List ℕ) (o : Opened) (calls : List Call) (steps : List Step)
+  pub runs-from : (start : Done) (cleared : List ℕ) (o : Opened) (calls : List Call) (steps : List Step)
       → AllKeep calendar tables (start .book) cleared calls steps → leftOpen start cleared ≡ o
       → runOf (start .book) cleared steps ≡ runFrom calendar tables o calls
   unfolding runFrom leftOpen

@@ -114,11 +114,11 @@ every-continuation calendar tables before k calls =
 
 -- ---- calendar and tables that change
 
-started-sound : (day : ℕ) → SoundLedger (started day)
+pub started-sound : (day : ℕ) → SoundLedger (started day)
 started-sound day =
     record { covered = started-covered [] [] day; inside = started-inside [] [] day; balanced-before = unfold started in tt }
 
-all-go-on : (periods : List Period) (before : Ledger) → SoundLedger before → (book : Book) (balances : List ℕ)
+pub all-go-on : (periods : List Period) (before : Ledger) → SoundLedger before → (book : Book) (balances : List ℕ)
     → book ≡ bookOf before → balances ≡ balancesOf before → AllGoOn before book balances periods
 all-go-on [] before k book balances b l = tt
 all-go-on (p ∷ periods) before k book balances b l =

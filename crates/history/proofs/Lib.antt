@@ -11,5 +11,6 @@ pub mod Rows
 pub mod ListRows
 pub mod Answers
 pub mod StaysSound
+pub mod Runs
 pub mod Continuation
 pub mod ByValue

@@ -1,7 +1,7 @@
 -- What opening, transfer and close answer and leave, on any book and balances: the equations of the calls' contracts. Then a list of
 -- calls, each on the book and balances that the last one left.
 use mathlib.Core.Path.{_≡_}
-use mathlib.Core.List.{List, [], _∷_}
+use mathlib.Core.List.{List, [], _∷_, _++_}
 use Prim.Native.Nat.{ℕ, zero, suc, _+_}
 use lib.ListN.{length, replicate}
 use Rattle.days.specs.Days.{firstDate, openAfter}
@@ -108,6 +108,10 @@ runBy gives book balances (call ∷ calls) =
 -- By what transfers and closes give.
 abbrev pub run : List ℕ → List ℕ → Book → List ℕ → List Call → Run
 run calendar tables book balances calls = runBy (result calendar tables) book balances calls
+
+-- A list of calls and one that follows it: the answers of both, and what the last call leaves.
+unfoldable pub followedBy : Run → Run → Run
+followedBy first next = record { answers = first .answers ++ next .answers; book = next .book; balances = next .balances }
 
 -- A list of calls on what an opening leaves.
 unfoldable pub runFrom : List ℕ → List ℕ → Opened → List Call → Run
