@@ -1,7 +1,7 @@
 """Document 01's cases that no theorem states, its mistakes to rule out, the fail, interim, repo and lending examples of source document 001
 (Clearing Memo 278), Attachment II, the fail examples of source document 004 (Clearing Memo 219), Attachment 3, and the edges of the rules
-of interim claims, of pools that pay late, of repos beside loans, of date limits, of minimum pieces and of days before the memo of 2023, by
-the reference.
+of interim claims, of pools that pay late, of repos beside loans, of date limits, of minimum pieces, of days before the memo of 2023 and of
+saved books that are carried over, by the reference.
 
     python3 case_runs.py REFERENCE_FOLDER STEPS_FILE
 
@@ -9,10 +9,12 @@ writes the calls to STEPS_FILE (crates/case_runs/data/case_runs.in) and prints w
 (crates/case_runs/stdout). Years and factors of the memo's fail and lending examples are those of the reference's cases.py, and the repo
 examples have those of lending; the interim examples are in 2026, where both Settlement Dates, 7 and 17 December, are open days. Memo 219's
 examples are in 2002 or 2004, where their Settlement Dates and the days of their claims are open days. Each run is made by the reference's
-tally and its direct calls side by side, but for saved books, which only the direct calls can take.
+tally and its direct calls side by side, but for saved books, which only the direct calls can take. A history is carried over with its
+tally: its calls before the move are made by the reference with repo left out, and those behind it are compared with this form too, up to the
+first with a repo code.
 
 Under a call stand its claims and the balances that are not zero: 'lent' for a loan and 'repo' for a repo, each with security, lender,
-borrower and par, loans first.
+borrower and par, loans first; under a refused carry over the words that it changed, of which there are none.
 """
 import datetime
 import sys
@@ -35,6 +37,19 @@ HALF_YEARS = {20220831: 20220228, 20200831: 20200229, 20220630: 20211230, 202212
               20220101: 20210701, 20000701: 20000101, 20000702: 20000102, 20230129: 20220729}
 
 
+def lending_history(day, calls):
+    """The history of these calls from this day on, by the rules in force with repo left out."""
+    history = cards.Both(step_files.CARDS, repo=False)
+    assert history.open(steps.calendar, steps.tables, day) == 0
+    for fields, more in calls:
+        if fields is None:
+            history.close(steps.calendar, steps.tables, mk.close(), step_files.pattern(ROOM))
+        else:
+            history.transfer(steps.calendar, steps.tables, mk.transfer(*fields, **more), step_files.pattern(ROOM))
+    history.check_owed()
+    return history
+
+
 class Run:
     """A run: calendar and tables, an opening, then calls on the book and balances that the last one left."""
 
@@ -45,6 +60,7 @@ class Run:
         self.open("opening", day)
 
     def open(self, name, day):
+        self.lending = None
         self.both.open(steps.calendar, steps.tables, day)
         self.show(name, steps.open("%s-%s" % (self.name, name), day))
 
@@ -58,19 +74,37 @@ class Run:
 
     def save(self, day, words, count=0):
         """A saved book with these words from here on."""
-        self.both = None
+        self.both = self.lending = None
         steps.set_book(day, count, [words.get(w, 0) for w in range(rules.words)])
 
+    def carry_over(self, name, day, words, count=0, saved=step_files.REPO_AT, **lengths):
+        """A book saved with these words carried over, and the calls from here on made on it."""
+        self.both = self.lending = None
+        self.show(name, steps.carry_over("%s-%s" % (self.name, name), day, count, [words.get(w, 0) for w in range(saved)], **lengths))
+
+    def move(self, name, day, calls):
+        """A history with repo left out, of calls from this day on, carried over. It goes on in both forms."""
+        self.lending, self.both = (lending_history(day, calls) for _ in range(2))
+        result = steps.carry_over("%s-%s" % (self.name, name), *self.both.book, self.both.balances)
+        assert self.both.carry_over(steps.calendar) == result.number == 0, name
+        assert (self.both.book, self.both.balances) == (result.book, result.balances), name
+        self.show(name, result)
+
     def made(self, name, result, tallied, *arguments):
-        """Shows what a call gave, which the tally's form of it has to give on the same arguments."""
+        """Shows what a call gave, which the tally's form of it has to give on the same arguments, and the form with repo left out."""
         if self.both:
             assert result == tallied(self.both, steps.calendar, steps.tables, *arguments), name
             self.both.check_owed()
+        if self.lending:
+            alone = tallied(self.lending, steps.calendar, steps.tables, *arguments)
+            assert result == alone._replace(balances=alone.balances + [0] * step_files.REPO_AT), name
         self.show(name, result)
 
     def transfer(self, name, *fields, room=ROOM, limits=None, pieces=None, **more):
         """A transfer, in the form with limits where some are given, with ones as pieces where no others are."""
         message = mk.transfer(*fields, **more)
+        if 6 < ref.read_record(ref.TRANSFER, message)[1].code <= rules.last_code:
+            self.lending = None
         result = steps.transfer("%s-%s" % (self.name, name), message, room, limits, pieces)
         self.made(name, result, cards.Both.transfer, message, step_files.pattern(room), limits, pieces)
 
@@ -616,6 +650,99 @@ def held_before_the_memo():
                 run.close("close-of-%d" % day, room=35 * len(places))
 
 
+def carried_books():
+    """Saved books carried over: the return and the close that follow, then each cause of a refusal, the edges about it, and two causes at
+    once."""
+    tables = mk.cases_tables()
+    run = Run("carry-over", 20230331, tables)
+    run.carry_over("saved", 20230331, {18: 15_000}, 3)
+    run.transfer("return", 2, 1, 0, 5_000, 3)
+    run.close("close")
+    for name, day, words, more in (
+            ("closed-day", 20230401, {18: 15_000}, {}), ("last-open-day", 20391230, {}, {}), ("day-before-the-last", 20391229, {}, {}),
+            ("first-open-day", 20000103, {18: 15_000}, {}), ("no-date", 20230229, {}, {}), ("day-0", 0, {}, {}),
+            ("4095-saved", 20230331, {18: 15_000}, {"saved": 4_095}), ("4097-saved", 20230331, {}, {"saved": 4_097}),
+            ("8192-saved", 20230331, {18: 15_000}, {"saved": 8_192}), ("none-saved", 20230331, {}, {"saved": 0}),
+            ("8191-balances", 20230331, {18: 15_000}, {"lent": 8_191}), ("4096-balances", 20230331, {18: 15_000}, {"lent": 4_096}),
+            ("no-balances", 20230331, {}, {"lent": 0}), ("479-calendar-words", 20230331, {18: 15_000}, {"calendar_words": 479}),
+            ("no-calendar", 20230331, {}, {"calendar_words": 0}),
+            ("479-calendar-words-on-a-closed-day", 20230401, {}, {"calendar_words": 479}),
+            ("4095-saved-past-the-limit", 20230331, {19: 9_000_000_001}, {"saved": 4_095}),
+            ("past-the-limit", 20230331, {19: 9_000_000_001}, {}), ("past-the-limit-last", 20230331, {4_094: 9_000_000_001}, {}),
+            ("largest-word", 20230331, {1: 2 ** 64 - 1}, {}), ("at-the-limit", 20230331, {1: 9_000_000_000, 4_094: 9_000_000_000}, {}),
+            ("with-itself", 20230331, {17: 1}, {}), ("with-itself-first", 20230331, {0: 1}, {}),
+            ("with-itself-last", 20230331, {4_095: 1}, {}), ("with-itself-between", 20230331, {7 * 256 + 4 * 17: 9_000_000_000}, {}),
+            ("around-with-itself", 20230331, {7 * 256 + 4 * 17 + d: 7 for d in (-16, -1, 1, 16)}, {})):
+        run.carry_over(name, day, words, 3, **more)
+    run.carry_over("old-day-and-full-count", 20030404, {18: 15_000}, 4_294_967_295)
+    run.transfer("with-a-full-count", 1, 2, 0, 200_000)
+    run.close("close-of-20030404")
+    bad = list(CALENDAR)
+    bad[0] |= 1 << 31
+    steps.set_tables(bad, tables)
+    for name, day, words, more in (
+            ("bad-calendar", 20230331, {18: 15_000}, {}), ("bad-calendar-and-closed-day", 20230401, {18: 15_000}, {}),
+            ("bad-calendar-with-itself", 20230331, {17: 1}, {}), ("bad-calendar-and-4095-saved", 20230331, {}, {"saved": 4_095}),
+            ("bad-calendar-and-8191-balances", 20230331, {}, {"lent": 8_191})):
+        run.carry_over(name, day, words, 3, **more)
+
+
+def carried_histories():
+    """One list of calls without repo codes, carried over before each of them and behind the last: a loan counts both sides of the move, in
+    what is claimed and in what can be returned. Then repos beside the loan."""
+    calendar = mk.only((20230331, 20230403, 20230428, 20230501, 20230502, 20230515))
+    tables = mk.tables_of({s: mk.security(3, 1, [mk.cases_row(4), mk.cases_row(5)]) for s in (0, 15)})
+    calls = {
+        "lent": ((1, 2, 0, 50_000, 1), {}), "lent-back": ((2, 1, 0, 3_000, 4), {}),
+        "lent-in-the-last-security": ((15, 14, 15, 70_000, 5), {}), "returned": ((2, 1, 0, 20_000, 3), {}), "close-of-20230331": (None, {}),
+        "fail": ((1, 2, 0, 200_000), {"contract": 20230315}),
+        "returned-above-it": ((2, 1, 0, 30_001, 2), {}), "lent-more": ((1, 2, 0, 10_000, 5), {}), "close-of-20230403": (None, {}),
+        "returned-after-it": ((2, 1, 0, 15_000, 6), {}), "close-of-20230428": (None, {}), "returned-in-full": ((2, 1, 0, 25_000, 2), {})}
+    for moved in range(len(calls) + 1):
+        run = Run("carried-behind-%d-calls" % moved, 20230331, tables, calendar)
+        run.move("move", 20230331, list(calls.values())[:moved])
+        for name, (fields, more) in list(calls.items())[moved:]:
+            if fields is None:
+                run.close(name)
+            else:
+                run.transfer(name, *fields, **more)
+    run = Run("carried-with-repos", 20230331, tables, calendar)
+    run.move("move", 20230331, list(calls.values())[:8])
+    for name, *fields in (
+            ("repo", 1, 2, 0, 40_000, 7), ("repo-returned-above-it", 2, 1, 0, 40_001, 9), ("repo-returned", 2, 1, 0, 5_000, 9),
+            ("loan-returned", 2, 1, 0, 15_000, 3), ("repo-in-the-last-security", 15, 14, 15, 1, 10)):
+        run.transfer(name, *fields)
+    run.transfer("loan-off-its-piece", 2, 1, 0, 12_500, 3, pieces=[1_000] * 16)
+    run.transfer("with-limits", 1, 2, 0, 200_000, contract=20230315, limits=[1] * 5)
+    run.close("close-of-20230403")
+    run.close("close-of-20230428-one-byte-short", room=35 * 5 - 1)
+    run.close("close-of-20230428", room=35 * 5)
+
+
+def carried_over_the_memo():
+    """Books of days before the memo carried over: a loan that was saved, and a history; calls before the memo's day and behind it."""
+    places = {word_of("on-the-day"): 50_000, word_of("type-3"): 7_000}
+    run, sent = memo_run("carried", LAST_DAY)
+    run.carry_over("saved", LAST_DAY, places, 5)
+    for day in (LAST_DAY, MEMO_DAY):
+        sent("%d-loan-return" % day, "on-the-day", 20_000, 3, True)
+        sent("%d-loan" % day, "on-the-day", 10_000, 1)
+        sent("%d-fail" % day, contract=20220615)
+        sent("%d-empty-tag" % day, line2=EMPTY_TAG)
+        run.close("%d-close" % day)
+    run.carry_over("saved-with-repos", LAST_DAY, places)
+    sent("repo", "on-the-day", 30_000, 7)
+    run.close("with-repos-close")
+    sent("repo-return", "on-the-day", 30_000, 9, True)
+    sent("loan-return", "on-the-day", 50_000, 3, True)
+    on_the_day = list(SECURITIES).index("on-the-day")
+    run.move("history", LAST_DAY, [((1, 2, on_the_day, 100_000), {"contract": 20220615}), ((1, 2, on_the_day, 100_000, 1), {})])
+    for day in (LAST_DAY, MEMO_DAY):
+        sent("history-%d-loan" % day, "on-the-day", 10_000, 1)
+        sent("history-%d-fail" % day, "on-the-day", contract=20220615)
+        run.close("history-%d-close" % day)
+
+
 document_cases()
 mistakes()
 memo_fails()
@@ -637,4 +764,7 @@ codes_before_the_memo()
 causes_beside_fifteen()
 over_the_memo()
 held_before_the_memo()
+carried_books()
+carried_histories()
+carried_over_the_memo()
 steps.write(sys.argv[2])

@@ -2,12 +2,12 @@
 
     python3 pick_calls.py REFERENCE_FOLDER SEED COUNT FOLDER
 
-makes random calls by the reference's make_calls.py, some of them once more with half a book, with other limits or with other pieces, and
-writes COUNT of them to FOLDER/calls.in, with what they should give in FOLDER/calls.expected (the format is that of make_calls.py;
-crates/call_files/src/entries.rt reads it). It takes first calls that show what is wanted (step_files.wanted, REPOS, LIMITS, PIECES and
-MEMO), always the one that shows most of what is left, then likewise calls that show all answers to each kind of call and all parts of wrong
-length, then others in their order, those with claims first; none with a large claim buffer. It prints what the calls cover, and fails where
-something that is wanted is missing.
+makes random calls by the reference's make_calls.py, some of them once more with half a book, with other limits, with other pieces or with
+another saved book, and writes COUNT of them to FOLDER/calls.in, with what they should give in FOLDER/calls.expected (the format is that of
+make_calls.py; crates/call_files/src/entries.rt reads it). It takes first calls that show what is wanted (step_files.wanted, REPOS, LIMITS,
+PIECES, MEMO and CARRIED), always the one that shows most of what is left, then likewise calls that show all answers to each kind of call and
+all parts of wrong length, then others in their order, those with claims first; none with a large claim buffer. It prints what the calls
+cover, and fails where something that is wanted is missing.
 """
 import collections
 import os
@@ -16,11 +16,11 @@ import sys
 import step_files
 
 folder, seed, count, out = sys.argv[1], sys.argv[2], int(sys.argv[3]), sys.argv[4]
-ref, cards, make_calls = step_files.reference_modules(folder, "reference", "cards", "make_calls")
+ref, mk, cards, make_calls = step_files.reference_modules(folder, "reference", "makebook", "cards", "make_calls")
 
 CALLS = ("open", "transfer", "close", "transfer with lists", "carry over", "set a mark", "go back to a mark", "forecast", "explain",
          "transfer on one of several books", "close on one of several books")
-ONE_BOOK, WITH_LISTS = (0, 1, 2, 3), 3
+ONE_BOOK, WITH_LISTS, CARRY_OVER = (0, 1, 2, 3), 3, 4
 NUMBERS = step_files.in_force(step_files.ANSWERS)
 # What calls show of the words of repos: repo_facts.
 REPOS = {("repos", "cleared", "open")} | {("repos", "half a book", call) for call in CALLS[:4]} | {
@@ -43,9 +43,23 @@ PIECES = {("pieces", "broken", *pieces) for pieces in step_files.BROKEN_PIECES} 
 MEMO = {("before the memo", name) for name in (
     "limits not used", "loan claimed at a close", "15 on a held balance", "15 before 8", "15 with an empty tag")} | {
     ("before the memo", "%d before 15" % n) for n in (6, 11, 12, 13, 14, 132, 133, 135, 138, 139)}
-WANTED = step_files.wanted(NUMBERS) | REPOS | LIMITS | PIECES | MEMO
+# The lengths of what a carry over is lent; balances are the saved ones, words those that it writes.
+CARRIED_LENGTHS = {"calendar": 480, "balances": step_files.REPO_AT, "words": 2 * step_files.REPO_AT}
+# What a carry over shows, with its number: carried_facts. A cause that is named stands alone. 'Both halves': before the call the words of
+# loans and the words of repos are not all zero.
+CARRIED = {("carried", 1, name, more) for name in CARRIED_LENGTHS for more in (-1, 1)} | {
+    ("carried", 1, "balances", step_files.REPO_AT), ("carried", 1, "words", -step_files.REPO_AT)} | {
+    ("carried", *shown) for shown in (
+        (1, "before 2"), (1, "before 4"), (2, "alone"), (2, "before 4"), (4, "closed day"), (4, "last open day"), (4, "no date"),
+        (4, "past the limit"), (4, "past the limit in the last security"), (4, "with itself"), (4, "first word"), (4, "last word"),
+        (0, "no word as it was"), (0, "balances that 4 would refuse"), (0, "largest count"), (0, "count 0"), (0, "before the memo"),
+        (0, "loan before the memo"), (0, "loan from the memo on"), (0, "day before the last"), (0, "par in the first security"),
+        (0, "par in the last security"), (0, "par in every security"), (0, "largest balance"), (0, "nothing on loan"))} | {
+    ("carried", n, "both halves") for n in (0, 1, 2, 4)}
+WANTED = step_files.wanted(NUMBERS) | REPOS | LIMITS | PIECES | MEMO | CARRIED
 LARGEST_BUFFER = 4096
 CANDIDATES = 40 * count
+EVERY_DAY = mk.calendar_of(lambda date: True)
 LENGTHS = {"calendar": 480, "tables": 1824, "balances": cards.Rules(step_files.CARDS).words, "limits": 5, "pieces": 16}
 
 
@@ -53,6 +67,63 @@ def wrong_lengths(call) -> set:
     """The parts of wrong length of a call on one book, and by how much they are wrong."""
     lent = {name: call[name] for name in LENGTHS if call["kind"] in ONE_BOOK and call.get(name) is not None}
     return {("length", name, len(part) - LENGTHS[name]) for name, part in lent.items() if len(part) != LENGTHS[name]}
+
+
+def fitted(words, length) -> list:
+    """Words cut to a length, or filled up with zeros."""
+    return (words + [0] * length)[:length]
+
+
+def refused_day(call) -> str:
+    """Why the day of a carry over is refused."""
+    days = ref.open_days(call["calendar"])
+    return "no date" if not ref.is_date(call["day"]) else "last open day" if call["day"] in days else "closed day"
+
+
+def bad_balance_facts(saved) -> set:
+    """What saved balances show for which alone a carry over is refused."""
+    large = [w for w, par in enumerate(saved) if par > ref.LARGEST_BALANCE]
+    own = [w for w, par in enumerate(saved) if par and w // 16 % 16 == w % 16]
+    if large and own:
+        return set()
+    return {name for name, holds in {
+        "past the limit": large, "past the limit in the last security": min(large, default=0) >= 15 * 256, "with itself": own,
+        "first word": own == [0], "last word": own == [step_files.REPO_AT - 1]}.items() if holds}
+
+
+def accepted_carry_facts(call) -> set:
+    """What an accepted carry over shows."""
+    saved, words = call["balances"], call["words"]
+    days, is_old = ref.open_days(call["calendar"]), cards.Rules(step_files.CARDS).old(call["day"])
+    return {name for name, holds in {
+        "no word as it was": all(a != b for a, b in zip(fitted(saved, len(words)), words)),
+        "balances that 4 would refuse": cards.Rules(step_files.CARDS).bad_balances(words),
+        "largest count": call["count"] == ref.LARGEST_COUNT, "count 0": call["count"] == 0, "before the memo": is_old,
+        "loan before the memo": is_old and any(saved), "loan from the memo on": not is_old and any(saved),
+        "day before the last": call["day"] == days[-2], "par in the first security": any(saved[:256]),
+        "par in the last security": any(saved[-256:]),
+        "par in every security": all(any(saved[at:at + 256]) for at in range(0, len(saved), 256)),
+        "largest balance": max(saved) == ref.LARGEST_BALANCE, "nothing on loan": not any(saved)}.items() if holds}
+
+
+def carried_facts(call, number, answer) -> set:
+    """What a carry over shows. answer: its number with other arguments."""
+    halves = call["words"][:step_files.REPO_AT], call["words"][step_files.REPO_AT:]
+    facts = {("both halves",)} if all(map(any, halves)) else set()
+    if number == 1:
+        wrong = {name: len(call[name]) - length for name, length in CARRIED_LENGTHS.items() if len(call[name]) != length}
+        rest = answer(**{name: fitted(call[name], CARRIED_LENGTHS[name]) for name in wrong})
+        facts |= {("before %d" % rest,)} if rest else set(wrong.items()) if len(wrong) == 1 else set()
+    if number == 2:
+        rest = answer(calendar=[bits & every for bits, every in zip(call["calendar"], EVERY_DAY)])
+        facts.add(("before %d" % rest,) if rest else ("alone",))
+    if number == 4 and answer(balances=[0] * step_files.REPO_AT) == 0:
+        facts |= {(name,) for name in bad_balance_facts(call["balances"])}
+    elif number == 4 and not ref.cause_4_balances(call["balances"]):
+        facts.add((refused_day(call),))
+    if number == 0:
+        facts |= {(name,) for name in accepted_carry_facts(call)}
+    return {("carried", number, *fact) for fact in facts}
 
 
 def repo_facts(call, result) -> set:
@@ -191,6 +262,8 @@ def shown(call, result) -> set:
         facts |= step_files.transfer_facts(ref, cards, call, result, answer)
     if call["kind"] == 2:
         facts |= step_files.close_facts(ref, cards, call, result, answer)
+    if call["kind"] == CARRY_OVER:
+        facts |= carried_facts(call, result.number, answer)
     if call["kind"] == WITH_LISTS:
         facts |= limit_facts(call, result, answer) if call["limits"] is not None else set()
         facts |= piece_facts(call, result, answer)
@@ -232,28 +305,79 @@ def other_lists(call, transfer):
     yield from other_pieces(call, transfer)
 
 
-def list_facts(call, result) -> set:
-    """What a call shows of limits and pieces."""
-    return {fact for fact in shown(call, result) if fact[0] in ("limits", "pieces")}
+def with_word(words, place, value) -> list:
+    """Words with one of them changed."""
+    return words[:place] + [value] + words[place + 1:]
+
+
+def refused_carries(call):
+    """What is other than in an accepted carry over: one cause of a refusal, then two."""
+    saved, found = call["balances"], call["words"]
+    days = ref.open_days(call["calendar"])
+    closed = min((date for date in ref.open_days(EVERY_DAY) if date > call["day"] and date not in days), default=0)
+    late = {"calendar": with_word(call["calendar"], 0, 2 ** 31)}
+    for name in CARRIED_LENGTHS:
+        yield {name: call[name][:-1]}
+        yield {name: call[name] + [0]}
+    yield {"balances": saved + [0] * step_files.REPO_AT}
+    yield {"words": found[:step_files.REPO_AT]}
+    yield late
+    yield from ({"day": day} for day in (closed, days[-1], 0))
+    last = 15 * 256 + 1
+    for place, par in ((1, ref.LARGEST_BALANCE + 1), (last, ref.LARGEST_BALANCE + 1), (last, 2 ** 64 - 1), (17, 1), (0, 1), (-1, 1)):
+        yield {"balances": with_word(saved, place % step_files.REPO_AT, par)}
+    yield late | {"balances": saved[:-1]}
+    yield {"words": found[:-1], "day": 0}
+    yield late | {"day": 0}
+
+
+def other_carries(call):
+    """An accepted carry over to balances of marks and to some that 4 would refuse, with other days, counts and saved balances; then refused
+    ones."""
+    found = [w + 1 if w % 500 == 17 else 0 for w in range(2 * step_files.REPO_AT)]
+    good = dict(call, words=found)
+    saved, days = call["balances"], ref.open_days(call["calendar"])
+    loans = {ref.place(s, s, 15 - s): s + 1 for s in range(16)}
+    yield good
+    yield dict(good, words=step_files.marks(2 * step_files.REPO_AT))
+    for changes in ({"count": ref.LARGEST_COUNT}, {"count": 0}, {"day": days[0]}, {"day": days[-2]}, {"balances": [0] * len(saved)},
+                    {"balances": with_word(saved, 1, ref.LARGEST_BALANCE)}, {"balances": with_word(saved, len(saved) - 2, 1)},
+                    {"balances": [loans.get(w, 0) for w in range(len(saved))]}):
+        yield good | changes
+    yield from (good | changes for changes in refused_carries(good))
+
+
+def once_more(call):
+    """An accepted call with other arguments; of the carry overs those with par on loan."""
+    if call["kind"] in (1, WITH_LISTS):
+        yield from other_lists(call, ref.read_record(ref.TRANSFER, call["message"])[1])
+    if call["kind"] == CARRY_OVER and any(call["balances"]):
+        yield from other_carries(call)
+
+
+def argument_facts(call, result) -> set:
+    """What a call shows of limits, of pieces and of a saved book."""
+    return {fact for fact in shown(call, result) if fact[0] in ("limits", "pieces", "carried")}
 
 
 def candidates():
-    """Random calls. Once more come the first accepted one of each kind with half a book, the first accepted transfer with lists with lists
-    that break one rule, and accepted transfers with other lists that show something of them that none of these before them shows."""
+    """Random calls. Once more come the first accepted one of each kind on one book with half a book, the first accepted transfer with lists
+    with lists that break one rule, and accepted calls with other arguments that show something of them that none of these before them
+    shows."""
     accepted, facts = set(), set()
     for i in range(CANDIDATES):
         call = make_calls.call_of(seed, i, step_files.CARDS)
         kind = call["kind"]
         yield call
-        if kind not in ONE_BOOK or make_calls.run(call).number:
+        if make_calls.run(call).number:
             continue
-        if kind not in accepted:
+        if kind in ONE_BOOK and kind not in accepted:
             accepted.add(kind)
             yield dict(call, balances=call["balances"][:step_files.REPO_AT])
             for name, lists in (("limits", step_files.BROKEN), ("pieces", step_files.BROKEN_PIECES)) if kind == WITH_LISTS else ():
                 yield from (dict(call, **{name: numbers}) for numbers in lists)
-        for again in other_lists(call, ref.read_record(ref.TRANSFER, call["message"])[1]) if kind in (1, WITH_LISTS) else ():
-            more = list_facts(again, make_calls.run(again)) - facts
+        for again in once_more(call):
+            more = argument_facts(again, make_calls.run(again)) - facts
             facts |= more
             if more:
                 yield again

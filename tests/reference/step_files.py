@@ -8,12 +8,12 @@ import os
 import struct
 import sys
 
-CARDS = 7                       # the last of document 02's cards in force that changes an answer
+CARDS = 8                       # the last of document 02's cards in force that changes an answer
 # The kinds of steps: the calls, as in files of calls, and what sets calendar and tables or the book.
-OPEN, TRANSFER, CLOSE, LENT_TRANSFER = range(4)
+OPEN, TRANSFER, CLOSE, LENT_TRANSFER, CARRY_OVER = range(5)
 TABLES, BOOK = 128, 129
 MODULUS = 4294967291
-REPO_AT = 4096                  # the first word of repos
+REPO_AT = 4096                  # the first word of repos, and how many balances a book had before them
 # Date limits: the published ones, and lists that break one rule each: the length, the range, the order. In their order only MBS and annual
 # can be 0 alone, and only MBS and monthly above 16.
 PUBLISHED = [7, 6, 3, 2, 1]
@@ -262,6 +262,17 @@ def pattern(length: int) -> bytes:
     return bytes(i % 251 for i in range(length))
 
 
+def marks(length: int) -> list:
+    """The balances that a step's carry over is lent: each word holds its place and one more."""
+    return list(range(1, length + 1))
+
+
+def balance_bytes(words) -> bytes:
+    """Balances: how many, how many of them are not zero, and the place and the par of each of these."""
+    pairs = [(w, par) for w, par in enumerate(words) if par]
+    return struct.pack("<II", len(words), len(pairs)) + b"".join(struct.pack("<IQ", w, par) for w, par in pairs)
+
+
 def list_bytes(numbers) -> bytes:
     """A list that a transfer is lent; None is the form without limits."""
     return struct.pack("<I", 2 ** 32 - 1) if numbers is None else struct.pack("<I%dI" % len(numbers), len(numbers), *numbers)
@@ -324,9 +335,7 @@ class Steps:
 
     def set_book(self, day: int, count: int, balances) -> None:
         self.book, self.balances = self.ref.Book(day, count), list(balances)
-        pairs = [(w, par) for w, par in enumerate(balances) if par]
-        self.add(BOOK, "", struct.pack("<III", day, count, len(pairs))
-                 + b"".join(struct.pack("<IQ", w, par) for w, par in pairs))
+        self.add(BOOK, "", struct.pack("<II", day, count) + balance_bytes(balances)[4:])
 
     def done(self, result):
         self.book, self.balances = result.book, result.balances
@@ -350,6 +359,16 @@ class Steps:
     def close(self, name: str, message: bytes, room: int):
         self.add(CLOSE, name, message, room)
         return self.done(self.rules.close(self.calendar, self.tables, self.book, self.balances, message, pattern(room)))
+
+    def carry_over(self, name: str, day: int, count: int, saved, calendar_words: int = 480, lent: int = 2 * REPO_AT):
+        """A saved book carried over with this many words of the calendar to this many balances, which hold marks. Refused, the balances
+        are what differs from the marks then."""
+        self.add(CARRY_OVER, name, struct.pack("<IIII", day, count, calendar_words, lent) + balance_bytes(saved))
+        found = marks(self.rules.words)
+        number, book, left = self.rules.carry_over(self.calendar[:calendar_words], self.ref.Book(day, count), saved, found[:lent])
+        left += found[lent:]
+        balances = [a ^ b for a, b in zip(left, found)] if number else left
+        return self.done(self.ref.Result(number, book, 0, balances, b""))
 
     def write(self, path: str) -> None:
         with open(path, "wb") as file:

@@ -2,19 +2,22 @@
 // An entry of the calls: the call in a byte (0 open, 1 transfer with ones as pieces, 2 close, 3 transfer that is lent lists); the number of
 // calendar words in four bytes and the words; the tables likewise; balances; day and count; the length of the message in four bytes and the
 // message; the claim buffer likewise; of a transfer that is lent lists the limits, or 4294967295 and no words in the form without them, and
-// the pieces.
-// An entry of what they give: the number in two bytes; day, count and claims in four each; balances; the claim buffer.
+// the pieces. A carry over, 4, has the calendar; the saved balances; day and count; the balances that it is to write.
+// An entry of what they give: the number in two bytes; day, count and claims in four each; balances; the claim buffer, or the balances that a
+// carry over is to write.
 // Balances: how many words in four bytes, how many of them are not zero in four, and for each of these its place and its par.
 use crate::Lists;
 use crate::byte_at;
 use crate::half_at;
+use crate::is_carry_over;
 use crate::lists_at;
 use crate::past_pairs;
 use crate::past_words;
 use crate::plus;
 use crate::word_at;
 
-// A call: where its parts stand and how long they are.
+// A call: where its parts stand and how long they are. `words` is a second run of words behind the balances: those that a carry over is to
+// write. A part that a call is not lent is empty, at the end of the file.
 pub struct Entry {
     pub kind: u8,
     pub calendar: usize,
@@ -29,10 +32,12 @@ pub struct Entry {
     pub message_length: usize,
     pub buffer: usize,
     pub buffer_length: usize,
+    pub words: usize,
+    pub word_count: usize,
     pub lists: Lists,
 }
 
-// What a call should give.
+// What a call should give, with the parts as in its entry.
 pub struct Expected {
     pub number: u16,
     pub day: u32,
@@ -42,6 +47,8 @@ pub struct Expected {
     pub balance_words: usize,
     pub buffer: usize,
     pub buffer_length: usize,
+    pub words: usize,
+    pub word_count: usize,
     pub next: usize,
 }
 
@@ -55,8 +62,35 @@ fn past_bytes(s: &[u8], at: usize) -> usize {
     plus(plus(at, 4), word_at(s, at) as usize)
 }
 
-// The call at a place.
-pub fn entry_at(s: &[u8], at: usize) -> Entry {
+// The carry over at a place.
+fn carry_over_at(s: &[u8], at: usize) -> Entry {
+    let calendar = plus(at, 1);
+    let balances = past_words(plus(calendar, 4), word_at(s, calendar));
+    let book = past_balances(s, balances);
+    let words = plus(book, 8);
+    let kind = byte_at(s, at);
+    Entry {
+        kind,
+        calendar: plus(calendar, 4),
+        calendar_words: word_at(s, calendar) as usize,
+        tables: s.len(),
+        table_words: 0,
+        balances,
+        balance_words: word_at(s, balances) as usize,
+        day: word_at(s, book),
+        count: word_at(s, plus(book, 4)),
+        message: s.len(),
+        message_length: 0,
+        buffer: s.len(),
+        buffer_length: 0,
+        words,
+        word_count: word_at(s, words) as usize,
+        lists: lists_at(kind, s, past_balances(s, words)),
+    }
+}
+
+// The call at a place that is no carry over.
+fn call_at(s: &[u8], at: usize) -> Entry {
     let calendar = plus(at, 1);
     let tables = past_words(plus(calendar, 4), word_at(s, calendar));
     let balances = past_words(plus(tables, 4), word_at(s, tables));
@@ -78,12 +112,41 @@ pub fn entry_at(s: &[u8], at: usize) -> Entry {
         message_length: word_at(s, message) as usize,
         buffer: plus(buffer, 4),
         buffer_length: word_at(s, buffer) as usize,
+        words: s.len(),
+        word_count: 0,
         lists: lists_at(kind, s, past_bytes(s, buffer)),
     }
 }
 
-// What the call at a place should give.
-pub fn expected_at(s: &[u8], at: usize) -> Expected {
+// The call at a place.
+pub fn entry_at(s: &[u8], at: usize) -> Entry {
+    if is_carry_over(byte_at(s, at)) {
+        return carry_over_at(s, at);
+    }
+    call_at(s, at)
+}
+
+// What the carry over at a place should give.
+fn expected_words_at(s: &[u8], at: usize) -> Expected {
+    let balances = plus(at, 14);
+    let words = past_balances(s, balances);
+    Expected {
+        number: half_at(s, at),
+        day: word_at(s, plus(at, 2)),
+        count: word_at(s, plus(at, 6)),
+        claims: word_at(s, plus(at, 10)),
+        balances,
+        balance_words: word_at(s, balances) as usize,
+        buffer: s.len(),
+        buffer_length: 0,
+        words,
+        word_count: word_at(s, words) as usize,
+        next: past_balances(s, words),
+    }
+}
+
+// What the call at a place that is no carry over should give.
+fn expected_claims_at(s: &[u8], at: usize) -> Expected {
     let balances = plus(at, 14);
     let buffer = past_balances(s, balances);
     Expected {
@@ -95,11 +158,21 @@ pub fn expected_at(s: &[u8], at: usize) -> Expected {
         balance_words: word_at(s, balances) as usize,
         buffer: plus(buffer, 4),
         buffer_length: word_at(s, buffer) as usize,
+        words: s.len(),
+        word_count: 0,
         next: past_bytes(s, buffer),
     }
 }
 
-// Fills balances with those at a place.
+// What the call of a kind should give, at a place.
+pub fn expected_at(kind: u8, s: &[u8], at: usize) -> Expected {
+    if is_carry_over(kind) {
+        return expected_words_at(s, at);
+    }
+    expected_claims_at(s, at)
+}
+
+// Fills balances with those at a place; at the end of a file all are zeros.
 pub fn balances_at(s: &[u8], at: usize, balances: &mut [u64]) {
     book::clear(balances);
     crate::pairs_at(s, plus(at, 8), word_at(s, plus(at, 4)), balances);

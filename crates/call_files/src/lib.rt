@@ -14,6 +14,9 @@ pub mod steps;
 // The kind of a transfer that is lent lists of the file: limits, or none of them, and pieces.
 const LENT_TRANSFER: u8 = 3;
 
+// The kind of a carry over.
+const CARRY_OVER: u8 = 4;
+
 // The length that stands for limits that are not lent.
 const NOT_LENT: u32 = 4294967295;
 
@@ -220,6 +223,11 @@ pub fn same_balances(a: &[u64], b: &[u64]) -> bool
     true
 }
 
+// Whether a kind is that of a carry over.
+pub fn is_carry_over(kind: u8) -> bool {
+    kind == CARRY_OVER
+}
+
 // The list at a place.
 fn numbers_at(s: &[u8], at: usize) -> Numbers {
     let words = word_at(s, at);
@@ -332,8 +340,8 @@ fn plain_transfer(
     transfers::transfer(calendar, tables, &ones, book, balances, message, claims)
 }
 
-// Makes a call: 0 opens a book on the day of the one given, 1 is a transfer with ones as pieces, 3 a transfer that is lent lists of the
-// file, any other a close.
+// Makes a call that is no carry over: 0 opens a book on the day of the one given, 1 is a transfer with ones as pieces, 3 a transfer that is
+// lent lists of the file, any other a close.
 pub fn call(
     kind: u8,
     s: &[u8],

@@ -2,13 +2,18 @@
 // A file is its number of steps in four bytes, then the steps. A step is its kind in a byte, the length of its name in a byte, the
 // name, the length of its message in four bytes, the message, and the length of its claim buffer in four bytes. Kinds: 0 opens a book
 // (message: the day), 1 is a transfer with ones as pieces, 2 a close, 3 a transfer that is lent lists (behind the length of its claim buffer
-// the number of limits and each of them, in four bytes, or 4294967295 and none in the form without them; then the pieces), 128 sets calendar
-// and tables (message: their words), 129 sets the book (message: day, count, how many balances are not zero, and for each of these its place
-// in four bytes and its par in eight).
+// the number of limits and each of them, in four bytes, or 4294967295 and none in the form without them; then the pieces), 4 carries a saved
+// book over (message: day, count, how many words of the calendar and how many balances it is lent, how many balances are saved, how many of
+// these are not zero, and their places and pars as in kind 129), 128 sets calendar and tables (message: their words), 129 sets the book
+// (message: day, count, how many balances are not zero, and for each of these its place in four bytes and its par in eight).
 use crate::Lists;
 use crate::byte_at;
 use crate::call;
+use crate::entries::balances_at;
 use crate::fill;
+use crate::fitting_balances;
+use crate::fitting_words;
+use crate::is_carry_over;
 use crate::lists_at;
 use crate::pairs_at;
 use crate::part;
@@ -68,14 +73,19 @@ fn set_tables(message: &[u8], calendar: &mut [u32; 480], tables: &mut [u32; 1824
     words_at(message, 1920, tables);
 }
 
-// Sets the balances from a message and answers the book.
-fn set_book(message: &[u8], balances: &mut [u64; 8192]) -> Book {
-    book::clear(balances);
-    pairs_at(message, 12, word_at(message, 8), balances);
+// The book that a message begins with.
+fn book_in(message: &[u8]) -> Book {
     Book {
         day: word_at(message, 0),
         count: word_at(message, 4),
     }
+}
+
+// Sets the balances from a message and answers the book.
+fn set_book(message: &[u8], balances: &mut [u64; 8192]) -> Book {
+    book::clear(balances);
+    pairs_at(message, 12, word_at(message, 8), balances);
+    book_in(message)
 }
 
 // Takes a step that is no call and answers the book after it.
@@ -106,6 +116,68 @@ fn given(kind: u8, message: &[u8], book: Book) -> Book {
     book
 }
 
+// Changes each word by a mark, its place and one more. Done twice, it leaves them as they were.
+fn mark(words: &mut [u64]) {
+    let mut i: usize = 0;
+    while i < words.len() {
+        words[i] = words[i] ^ ((i as u64) + 1);
+        i += 1;
+    }
+}
+
+// Takes the marks from balances that a refused carry over was lent: the words that are not zero then are those that it changed.
+fn unmark(number: u16, balances: &mut [u64]) {
+    if number != 0 {
+        mark(balances);
+    }
+}
+
+// Fills saved balances with those of a message and carries them over.
+fn carry_saved(
+    message: &[u8],
+    calendar: &[u32],
+    book: Book,
+    saved: &mut [u64],
+    balances: &mut [u64],
+) -> Done {
+    balances_at(message, 16, saved);
+    carry_over::carry_over(calendar, book, saved, balances)
+}
+
+// Carries the book of a message over, lent the parts of the buffers that it names.
+fn carry_parts(message: &[u8], calendar: &[u32], saved: &mut [u64], balances: &mut [u64]) -> Done {
+    let c = fitting_words(word_at(message, 8) as usize, calendar);
+    let b = fitting_balances(word_at(message, 12) as usize, balances);
+    let n = fitting_balances(word_at(message, 16) as usize, saved);
+    carry_saved(
+        message,
+        &calendar[..c],
+        book_in(message),
+        &mut saved[..n],
+        &mut balances[..b],
+    )
+}
+
+// The same with a whole buffer. The array is handed on by reference first, so that its elements stay out of the proofs.
+fn carry_whole(
+    message: &[u8],
+    calendar: &[u32],
+    saved: &mut [u64; 8192],
+    balances: &mut [u64],
+) -> Done {
+    carry_parts(message, calendar, saved, balances)
+}
+
+// Carries the book of a message over to balances that hold marks; refused, they are what differs from the marks.
+fn carry(message: &[u8], calendar: &[u32], balances: &mut [u64]) -> Done {
+    let mut saved = [0u64; 8192];
+    book::clear(balances);
+    mark(balances);
+    let done = carry_whole(message, calendar, &mut saved, balances);
+    unmark(done.number, balances);
+    done
+}
+
 // Makes the call of a step. Before it the claim buffer holds the remainders of its places by 251.
 pub fn make(
     s: &[u8],
@@ -118,6 +190,9 @@ pub fn make(
 ) -> Done {
     fill(claims);
     let message = part(s, step.message, step.message_length);
+    if is_carry_over(step.kind) {
+        return carry(message, calendar, balances);
+    }
     let book = given(step.kind, message, book);
     call(
         step.kind,

@@ -1,10 +1,11 @@
 // Runs the steps of case_runs.in: document 01's cases that no theorem states, the edges of interim claims, of pools that pay late, of repo
-// tracking, of date limits, of minimum pieces and of days before the 2023 memo, and the examples of fail, interim accounting, repo and
-// securities lending tracking of source document 001 (Clearing Memo 278), Attachment II, and of fail tracking of source document 004
-// (Clearing Memo 219), Attachment 3.
+// tracking, of date limits, of minimum pieces, of days before the 2023 memo and of saved books that are carried over, and the examples of
+// fail, interim accounting, repo and securities lending tracking of source document 001 (Clearing Memo 278), Attachment II, and of fail
+// tracking of source document 004 (Clearing Memo 219), Attachment 3.
 // It writes a line for each call: its name, number, day, count and claims; under it a line for each claim (type, outcome, payer,
 // payee, security, row, transfer number, interest, principal, release date, slot) and for each balance that is not zero (on loan or on
-// repo, security, lender, borrower, par).
+// repo, security, lender, borrower, par). Before a carry over each word of its balances holds a mark; under a refused one stand the words
+// that it changed.
 use book::Book;
 use book::Done;
 use call_files::print;

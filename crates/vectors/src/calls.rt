@@ -18,6 +18,7 @@ struct Differences {
     claims: bool,
     balances: bool,
     buffer: bool,
+    words: bool,
 }
 
 // Whether anything differs.
@@ -37,7 +38,10 @@ fn differs(d: Differences) -> bool {
     if d.balances {
         return true;
     }
-    d.buffer
+    if d.buffer {
+        return true;
+    }
+    d.words
 }
 
 // Writes a word where a part differs.
@@ -58,6 +62,7 @@ fn print_differences(index: u32, d: Differences) {
     print_word(d.claims, b" claims");
     print_word(d.balances, b" balances");
     print_word(d.buffer, b" buffer");
+    print_word(d.words, b" words");
     call_files::print_end();
 }
 
@@ -69,14 +74,16 @@ fn load(
     tables: &mut [u32],
     balances: &mut [u64],
     claims: &mut [u8],
+    words: &mut [u64],
 ) {
     call_files::words_at(s, call.calendar, calendar);
     call_files::words_at(s, call.tables, tables);
     call_files::entries::balances_at(s, call.balances, balances);
     call_files::bytes_at(s, call.buffer, claims);
+    call_files::entries::balances_at(s, call.words, words);
 }
 
-// Makes a call on its arguments.
+// Makes a call on its arguments. The balances of a carry over are the saved ones; it writes the words.
 fn make(
     s: &[u8],
     call: Entry,
@@ -84,12 +91,16 @@ fn make(
     tables: &[u32],
     balances: &mut [u64],
     claims: &mut [u8],
+    words: &mut [u64],
 ) -> Done {
     let message = call_files::part(s, call.message, call.message_length);
     let book = Book {
         day: call.day,
         count: call.count,
     };
+    if call_files::is_carry_over(call.kind) {
+        return carry_over::carry_over(calendar, book, balances, words);
+    }
     call_files::call(
         call.kind,
         s,
@@ -111,9 +122,10 @@ fn run_call(
     tables: &mut [u32],
     balances: &mut [u64],
     claims: &mut [u8],
+    words: &mut [u64],
 ) -> Done {
-    load(s, call, calendar, tables, balances, claims);
-    make(s, call, calendar, tables, balances, claims)
+    load(s, call, calendar, tables, balances, claims, words);
+    make(s, call, calendar, tables, balances, claims, words)
 }
 
 // Whether a claim buffer is the one that stands in a file, length and bytes.
@@ -127,13 +139,19 @@ fn same_buffer(claims: &[u8], t: &[u8], expected: Expected) -> bool {
     )
 }
 
-// Whether balances are those that stand in a file, their number and their words; `left` gets the words of the file.
-fn same_words(balances: &[u64], t: &[u8], expected: Expected, left: &mut [u64]) -> bool {
-    if balances.len() != expected.balance_words {
+// Whether words are the n that stand at a place of a file; `left`, of that length, gets the words of the file.
+fn same_words(words: &[u64], t: &[u8], at: usize, n: usize, left: &mut [u64]) -> bool {
+    if words.len() != n {
         return false;
     }
-    call_files::entries::balances_at(t, expected.balances, left);
-    call_files::same_balances(balances, left)
+    call_files::entries::balances_at(t, at, left);
+    call_files::same_balances(words, left)
+}
+
+// The same with a buffer that may be longer.
+fn same_run(words: &[u64], t: &[u8], at: usize, n: usize, left: &mut [u64]) -> bool {
+    let e = call_files::fitting_balances(n, left);
+    same_words(words, t, at, n, &mut left[..e])
 }
 
 // What differs between what a call gave and left and what it should.
@@ -141,6 +159,7 @@ fn compare(
     done: Done,
     balances: &[u64],
     claims: &[u8],
+    words: &[u64],
     t: &[u8],
     expected: Expected,
     left: &mut [u64],
@@ -150,8 +169,9 @@ fn compare(
         day: done.book.day != expected.day,
         count: done.book.count != expected.count,
         claims: done.claims != expected.claims as usize,
-        balances: !same_words(balances, t, expected, left),
+        balances: !same_run(balances, t, expected.balances, expected.balance_words, left),
         buffer: !same_buffer(claims, t, expected),
+        words: !same_run(words, t, expected.words, expected.word_count, left),
     }
 }
 
@@ -165,10 +185,11 @@ fn try_call(
     tables: &mut [u32],
     balances: &mut [u64],
     claims: &mut [u8],
+    words: &mut [u64],
     left: &mut [u64],
 ) -> Differences {
-    let done = run_call(s, call, calendar, tables, balances, claims);
-    compare(done, balances, claims, t, expected, left)
+    let done = run_call(s, call, calendar, tables, balances, claims, words);
+    compare(done, balances, claims, words, t, expected, left)
 }
 
 // Lends a call the parts of the buffers that it names, and compares what it gives.
@@ -181,13 +202,14 @@ fn try_entry(
     tables: &mut [u32],
     balances: &mut [u64],
     claims: &mut [u8],
+    words: &mut [u64],
     left: &mut [u64],
 ) -> Differences {
     let c = call_files::fitting_words(call.calendar_words, calendar);
     let n = call_files::fitting_words(call.table_words, tables);
     let b = call_files::fitting_balances(call.balance_words, balances);
     let k = call_files::fitting(call.buffer_length, claims);
-    let e = call_files::fitting_balances(expected.balance_words, left);
+    let w = call_files::fitting_balances(call.word_count, words);
     try_call(
         s,
         call,
@@ -197,7 +219,8 @@ fn try_entry(
         &mut tables[..n],
         &mut balances[..b],
         &mut claims[..k],
-        &mut left[..e],
+        &mut words[..w],
+        left,
     )
 }
 
@@ -228,6 +251,7 @@ fn try_all(
     tables: &mut [u32; 1856],
     balances: &mut [u64; 8224],
     claims: &mut [u8; 16384],
+    words: &mut [u64; 8224],
     left: &mut [u64; 8224],
 ) -> Totals {
     let mut totals = totals::none();
@@ -239,7 +263,7 @@ fn try_all(
             break;
         }
         let call = call_files::entries::entry_at(s, at);
-        let expected = call_files::entries::expected_at(t, place);
+        let expected = call_files::entries::expected_at(call.kind, t, place);
         let d = try_entry(
             s,
             call,
@@ -249,6 +273,7 @@ fn try_all(
             tables,
             balances,
             claims,
+            words,
             left,
         );
         totals = counted(totals, index, d);
@@ -265,8 +290,9 @@ fn try_file(s: &[u8], t: &[u8]) -> Totals {
     let mut calendar = [0u32; 512];
     let mut tables = [0u32; 1856];
     let mut balances = [0u64; 8224];
-    let mut left = [0u64; 8224];
     let mut claims = [0u8; 16384];
+    let mut words = [0u64; 8224];
+    let mut left = [0u64; 8224];
     try_all(
         s,
         t,
@@ -274,6 +300,7 @@ fn try_file(s: &[u8], t: &[u8]) -> Totals {
         &mut tables,
         &mut balances,
         &mut claims,
+        &mut words,
         &mut left,
     )
 }

@@ -5,10 +5,10 @@ use Rattle.vectors.proofs.calls.try_all.Statement.{statement}
 use Rattle.vectors.proofs.calls.try_all.Tie as tie
 
 abbrev Inv-loop : tie.InvT-loop
-Inv-loop s t calendar₀ tables₀ balances₀ claims₀ left₀ totals₀ at₀ place₀ index₀ t16 t17 calendar tables balances claims left totals at place index = Unit {0}
+Inv-loop s t calendar₀ tables₀ balances₀ claims₀ words₀ left₀ totals₀ at₀ place₀ index₀ t16 t17 calendar tables balances claims words left totals at place index = Unit {0}
 
 abbrev μ-loop : tie.MeasureT-loop
-μ-loop s t calendar₀ tables₀ balances₀ claims₀ left₀ totals₀ at₀ place₀ index₀ t16 t17 calendar tables balances claims left totals at place index = 4294967295 - index
+μ-loop s t calendar₀ tables₀ balances₀ claims₀ words₀ left₀ totals₀ at₀ place₀ index₀ t16 t17 calendar tables balances claims words left totals at place index = 4294967295 - index
 
 none-requires : tie.Need-none-requires Inv-loop μ-loop
 none-requires c κs = search needs
