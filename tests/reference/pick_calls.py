@@ -332,14 +332,14 @@ def refused_carries(call):
 
 
 def other_carries(call):
-    """An accepted carry over to balances of marks and to some that 4 would refuse, with other days, counts and saved balances; then refused
+    """An accepted carry over to balances of stamps and to some that 4 would refuse, with other days, counts and saved balances; then refused
     ones."""
     found = [w + 1 if w % 500 == 17 else 0 for w in range(2 * step_files.REPO_AT)]
     good = dict(call, words=found)
     saved, days = call["balances"], ref.open_days(call["calendar"])
     loans = {ref.place(s, s, 15 - s): s + 1 for s in range(16)}
     yield good
-    yield dict(good, words=step_files.marks(2 * step_files.REPO_AT))
+    yield dict(good, words=step_files.stamps(2 * step_files.REPO_AT))
     for changes in ({"count": ref.LARGEST_COUNT}, {"count": 0}, {"day": days[0]}, {"day": days[-2]}, {"balances": [0] * len(saved)},
                     {"balances": with_word(saved, 1, ref.LARGEST_BALANCE)}, {"balances": with_word(saved, len(saved) - 2, 1)},
                     {"balances": [loans.get(w, 0) for w in range(len(saved))]}):

@@ -262,7 +262,7 @@ def pattern(length: int) -> bytes:
     return bytes(i % 251 for i in range(length))
 
 
-def marks(length: int) -> list:
+def stamps(length: int) -> list:
     """The balances that a step's carry over is lent: each word holds its place and one more."""
     return list(range(1, length + 1))
 
@@ -361,10 +361,10 @@ class Steps:
         return self.done(self.rules.close(self.calendar, self.tables, self.book, self.balances, message, pattern(room)))
 
     def carry_over(self, name: str, day: int, count: int, saved, calendar_words: int = 480, lent: int = 2 * REPO_AT):
-        """A saved book carried over with this many words of the calendar to this many balances, which hold marks. Refused, the balances
-        are what differs from the marks then."""
+        """A saved book carried over with this many words of the calendar to this many balances, which hold stamps. Refused, the balances
+        are what differs from the stamps then."""
         self.add(CARRY_OVER, name, struct.pack("<IIII", day, count, calendar_words, lent) + balance_bytes(saved))
-        found = marks(self.rules.words)
+        found = stamps(self.rules.words)
         number, book, left = self.rules.carry_over(self.calendar[:calendar_words], self.ref.Book(day, count), saved, found[:lent])
         left += found[lent:]
         balances = [a ^ b for a, b in zip(left, found)] if number else left

@@ -116,8 +116,8 @@ fn given(kind: u8, message: &[u8], book: Book) -> Book {
     book
 }
 
-// Changes each word by a mark, its place and one more. Done twice, it leaves them as they were.
-fn mark(words: &mut [u64]) {
+// Changes each word by a stamp, its place and one more. Done twice, it leaves them as they were.
+fn stamp(words: &mut [u64]) {
     let mut i: usize = 0;
     while i < words.len() {
         words[i] = words[i] ^ ((i as u64) + 1);
@@ -125,10 +125,10 @@ fn mark(words: &mut [u64]) {
     }
 }
 
-// Takes the marks from balances that a refused carry over was lent: the words that are not zero then are those that it changed.
-fn unmark(number: u16, balances: &mut [u64]) {
+// Takes the stamps from balances that a refused carry over was lent: the words that are not zero then are those that it changed.
+fn unstamp(number: u16, balances: &mut [u64]) {
     if number != 0 {
-        mark(balances);
+        stamp(balances);
     }
 }
 
@@ -168,13 +168,13 @@ fn carry_whole(
     carry_parts(message, calendar, saved, balances)
 }
 
-// Carries the book of a message over to balances that hold marks; refused, they are what differs from the marks.
+// Carries the book of a message over to balances that hold stamps; refused, they are what differs from the stamps.
 fn carry(message: &[u8], calendar: &[u32], balances: &mut [u64]) -> Done {
     let mut saved = [0u64; 8192];
     book::clear(balances);
-    mark(balances);
+    stamp(balances);
     let done = carry_whole(message, calendar, &mut saved, balances);
-    unmark(done.number, balances);
+    unstamp(done.number, balances);
     done
 }
 

@@ -1,10 +1,10 @@
--- `mark` is safe and ends: the words stay as many as they were.
+-- `stamp` is safe and ends: the words stay as many as they were.
 use mathlib.Core.Path.{_≡_}
 use Prim.Native.Nat.{_-_}
 use lib.ListN.{length}
 use borrow.Author.Needs.{needs}
-use Rattle.call_files.proofs.steps.mark.Statement.{statement}
-use Rattle.call_files.proofs.steps.mark.Tie as tie
+use Rattle.call_files.proofs.steps.stamp.Statement.{statement}
+use Rattle.call_files.proofs.steps.stamp.Tie as tie
 
 abbrev Inv-loop : tie.InvT-loop
 Inv-loop words₀ i₀ words i = length words ≡ length words₀
@@ -45,8 +45,8 @@ same-length c = search needs
 returns : tie.Need-returns Inv-loop μ-loop
 returns c = search needs
 
-pub mark-spec : {M : Type 1} → statement M
-mark-spec =
+pub stamp-spec : {M : Type 1} → statement M
+stamp-spec =
     tie.close
     (tie.spec
     Inv-loop
