@@ -14,6 +14,9 @@ pub struct Book {
 // The largest balance.
 pub const LARGEST_BALANCE: u64 = 9_000_000_000;
 
+// The balances of one tracking: those of a book saved before repo was tracked, and the first word of repo.
+pub const TRACKING_WORDS: usize = 4096;
+
 // What a call answers: its number, the book after it, and how many claims it wrote.
 #[repr(C)]
 pub struct Done {

@@ -10,9 +10,6 @@ ghost use Rattle.carry_over.specs.CarriedOver.{carried};
 use book::Book;
 use book::Done;
 
-// The words of a saved book, and the first word of repo.
-const SAVED_WORDS: usize = 4096;
-
 // Copies saved words to the start of balances.
 fn copy_saved(saved: &[u64], balances: &mut [u64])
     requires { ⌜ length (now saved) ≤ length (now balances) ⌝ }
@@ -35,7 +32,7 @@ pub fn carry_over(calendar: &[u32], book: Book, saved: &[u64], balances: &mut [u
     if number != 0 {
         return book::refused(number, book);
     }
-    book::clear(&mut balances[SAVED_WORDS..]);
+    book::clear(&mut balances[book::TRACKING_WORDS..]);
     copy_saved(saved, balances);
     Done {
         number: 0,

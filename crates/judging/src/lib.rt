@@ -18,9 +18,6 @@ const TABLE_WORDS: usize = 1824;
 
 const BALANCE_WORDS: usize = 8192;
 
-// The balances of a book saved before repo was tracked.
-const SAVED_WORDS: usize = 4096;
-
 // The number 1, 2 or 3 that calendar, tables and balances meet, 0 where they meet none.
 fn table_number(calendar: &[u32], tables: &[u32], balances: &[u64]) -> u16
     ensures { λ r. ⌜ r ≡ firstOf (tableCauses (now (calendar .entry)) (now (tables .entry)) (now (balances .entry))) ⌝ }
@@ -202,7 +199,7 @@ pub fn carry_number(calendar: &[u32], day: u32, saved: &[u64], balances: &[u64])
     if calendar.len() != CALENDAR_WORDS {
         return 1;
     }
-    if saved.len() != SAVED_WORDS {
+    if saved.len() != book::TRACKING_WORDS {
         return 1;
     }
     if balances.len() != BALANCE_WORDS {
