@@ -11,10 +11,13 @@ use Rattle.securities.specs.Lent.{goodLimits, goodPieces}
 use Rattle.securities.specs.Securities.{tableWords, goodTables}
 use Rattle.book.specs.Book.{balanceWords, trackingWords, largestBalance, Position, position}
 
--- Calendar, tables or balances of wrong length: number 1.
+-- Calendar, tables or balances of wrong length, where there should be so many balances: number 1.
+abbrev pub wrongLengthFor : ℕ → List ℕ → List ℕ → List ℕ → Bool
+wrongLengthFor words calendar tables balances =
+    not (eqb (length calendar) calendarWords) || not (eqb (length tables) tableWords) || not (eqb (length balances) words)
+
 unfoldable pub wrongLength : List ℕ → List ℕ → List ℕ → Bool
-wrongLength calendar tables balances =
-    not (eqb (length calendar) calendarWords) || not (eqb (length tables) tableWords) || not (eqb (length balances) balanceWords)
+wrongLength calendar tables balances = wrongLengthFor balanceWords calendar tables balances
 
 -- The day is not open, or none after it is: number 4.
 unfoldable pub badDay : List ℕ → ℕ → Bool

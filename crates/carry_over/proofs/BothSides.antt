@@ -11,7 +11,7 @@ use borrow.Author.Tests.{eqb-true, not-false}
 use Rattle.lists.specs.Tests.{or-false-right}
 use Rattle.lists.specs.First.{firstOf, numbered, appliesAt, cleared, withTest}
 use Rattle.book.specs.declared.Book.{Book}
-use Rattle.book.specs.Soundness.{wrongLength, badDay, badBalances, tableCauses, stateCauses, bookCauses, openingCauses}
+use Rattle.book.specs.Soundness.{wrongLengthFor, wrongLength, badDay, badBalances, tableCauses, stateCauses, bookCauses, openingCauses}
 use Rattle.book.proofs.Judged.{SoundTables, numbered-book}
 use Rattle.history.specs.Calls.{Call}
 use Rattle.history.specs.Causes.{openingNumber}
@@ -26,7 +26,7 @@ use Rattle.history.proofs.Continuation.{started-sound, all-go-on, every-continu
 use Rattle.history.proofs.Runs.{run-append, run-sound}
 use Rattle.history.proofs.ByValue.{runs-from}
 use Rattle.carry_over.specs.CarriedOver.{widened, carried}
-use Rattle.carry_over.specs.LendingForm.{lendingWrongLength, lendingRun, lendingOpened}
+use Rattle.carry_over.specs.LendingForm.{lendingRun, lendingOpened}
 use Rattle.carry_over.specs.Statement.{NoRepo, withRepoEmpty, CountsBothSides, EveryCarriedHistory, EveryCarriedCall, NoRepoIn, AllCarryOn, EveryCarriedPeriod}
 use Rattle.carry_over.proofs.Zeros.{length-widened, bad-widened}
 use Rattle.carry_over.proofs.Carried.{saved-words, carry-clear, number-is, carried-is}
@@ -36,19 +36,19 @@ use Rattle.carry_over.proofs.Lists.{every-lending-list, run-words}
 
 module _ (calendar tables words : List ℕ) (day : ℕ) where
   lendingOpening : ℕ
-  lendingOpening = firstOf (withTest 1 (lendingWrongLength calendar tables words) (openingCauses calendar tables words day))
+  lendingOpening = firstOf (withTest 1 (wrongLengthFor 4096 calendar tables words) (openingCauses calendar tables words day))
 
   opening-words : lendingOpening ≡ 0 → length words ≡ 4096
-  unfolding lendingOpening withTest openingCauses tableCauses numbered appliesAt lendingWrongLength
+  unfolding lendingOpening withTest openingCauses tableCauses numbered appliesAt
   opening-words z =
       eqb-true (length words) 4096
       (not-false _
       (or-false-right (not (eqb (length calendar) 480) || not (eqb (length tables) 1824)) _
-      (cleared 1 (withTest 1 (lendingWrongLength calendar tables words) (openingCauses calendar tables words day)) refl z)))
+      (cleared 1 (withTest 1 (wrongLengthFor 4096 calendar tables words) (openingCauses calendar tables words day)) refl z)))
 
   -- with repo empty the opening meets the same number
   opening-widened : length words ≡ 4096 → openingNumber calendar tables (widened words) day ≡ lendingOpening
-  unfolding lendingOpening openingNumber withTest openingCauses tableCauses wrongLength lendingWrongLength
+  unfolding lendingOpening openingNumber withTest openingCauses tableCauses wrongLength
   opening-widened e = rw (length-widened words e, e)
 
   opening-number : lendingOpened calendar tables words day .number ≡ 0 → lendingOpening ≡ 0

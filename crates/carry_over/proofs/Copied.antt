@@ -4,7 +4,7 @@ use mathlib.Core.List.{List, _++_}
 use Prim.Native.Nat.{ℕ, suc, _+_, _≤_, _<_}
 use native.Mathlib.Numerals.{add-one}
 use native.Mathlib.Omega.{arith}
-use lib.ListN.{length, getD, set, take, drop, length-set, length-take}
+use lib.ListN.{length, getD, set, take, drop, length-set}
 use lib.Seq.{take-suc, take-length, drop-cons, append-snoc, set-at, length-take-le}
 
 pub record Copying (saved balances₀ balances : List ℕ) (i : ℕ) : Type 0 where

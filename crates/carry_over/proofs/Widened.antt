@@ -5,7 +5,7 @@ use mathlib.Core.List.{List, [], _∷_, _++_, append-nil}
 use Prim.Native.Nat.{ℕ, zero, suc, _+_, _*_, _≤_, _<_}
 use native.Mathlib.Omega.{arith}
 use lib.Dec.{ltb, leb}
-use lib.ListN.{length, drop, replicate, length-drop}
+use lib.ListN.{length, drop, replicate, length-drop, List·getD-eq-default}
 use lib.Seq.{take-append-le, drop-append-le}
 use borrow.Author.Tests.{ltb-true, ltb-false, leb-false, lt-ltb, le-ltb, le-leb}
 use Rattle.lists.specs.Fields.{part}
@@ -29,9 +29,9 @@ use Rattle.history.specs.Results.{Result, nextBalances, resultWith, resultFor, 
 use Rattle.history.proofs.Opened.{openedCauses}
 use Rattle.history.proofs.Accepted.{fields, Taken, taken}
 use Rattle.carry_over.specs.CarriedOver.{widened}
-use Rattle.carry_over.specs.LendingForm.{lendingClaims, lendingClaimsOf, lendingWrongLength, lendingOutOfRange, lendingNoRoom, lendingCauses, lendingNumber, lendingResult}
+use Rattle.carry_over.specs.LendingForm.{lendingClaims, lendingClaimsOf, lendingOutOfRange, lendingCauses, lendingNumber, lendingResult}
 use Rattle.carry_over.specs.Statement.{isRepo}
-use Rattle.carry_over.proofs.Zeros.{behind-end, word-widened, balance-widened, length-widened, set-widened, bad-widened}
+use Rattle.carry_over.proofs.Zeros.{word-widened, balance-widened, length-widened, set-widened, bad-widened}
 
 -- ---- runs for each place that are the same, or none
 
@@ -68,7 +68,7 @@ module _ (balances : List ℕ) (e : length balances ≡ 4096) where
   repo-none calendar tables day s row =
       each-none 16 _ (λ l hl. each-none 16 _ (λ b hb. loan-none calendar tables day _ row _ _
       (balance-word (widened balances) 1 s l b hl hb ∙ word-widened balances (4096 * 1 + 256 * s + 16 * l + b)
-      ∙ behind-end balances (4096 * 1 + 256 * s + 16 * l + b) (omega (arith, e)))))
+      ∙ List·getD-eq-default balances 0 (omega (arith, e)))))
 
   row-widened : (calendar tables : List ℕ) (day s : ℕ) (row : Row) → s < 16
       → rowClaims calendar tables day s (widened balances) row ≡ trackingClaims calendar tables day lendingType s (securityBalances balances 0 s) row
@@ -139,7 +139,7 @@ fields-same tables t e = go (outOfRange tables t) refl
 
 module _ (calendar tables : List ℕ) (book : Book) (balances : List ℕ) (e : length balances ≡ 4096) where
   causes-widened : (call : Call) → isRepo call ≡ false → causes calendar tables book (widened balances) call ≡ lendingCauses calendar tables book balances call
-  unfolding openedCauses withTest wrongLength lendingCauses lendingWrongLength lendingOutOfRange lendingNoRoom bufferOf isRepo
+  unfolding openedCauses withTest wrongLength lendingCauses lendingOutOfRange bufferOf isRepo
   causes-widened (transfer a) n =
       let t = transferOf (a .message) in
       rw (

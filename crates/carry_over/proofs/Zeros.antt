@@ -1,8 +1,8 @@
 -- Zeros behind balances: every word reads as before, and the balances are sound exactly where they were.
 use mathlib.Core.Path.{_≡_, refl, sym, ap, _∙_}
-use mathlib.Core.Bool.{Bool, true, false, not, _&&_}
+use mathlib.Core.Bool.{Bool, not, _&&_, and-assoc, and-true}
 use mathlib.Core.List.{List, [], _∷_, _++_}
-use Prim.Native.Nat.{ℕ, zero, suc, _+_, _≤_, _<_}
+use Prim.Native.Nat.{ℕ, zero, suc, _+_, _<_}
 use native.Mathlib.Nat.{add-zero}
 use native.Mathlib.Omega.{arith}
 use lib.ListN.{length, getD, set, replicate, length-append, length-replicate}
@@ -24,12 +24,6 @@ before-zeros [] n i = zeros-at n i
 before-zeros (x ∷ xs) n zero = refl
 before-zeros (x ∷ xs) n (suc i) = before-zeros xs n i
 
--- nothing stands behind the end
-pub behind-end : (xs : List ℕ) (i : ℕ) → length xs ≤ i → getD xs i 0 ≡ (zero)
-behind-end [] i h = refl
-behind-end (x ∷ xs) zero h = absurd (omega arith)
-behind-end (x ∷ xs) (suc i) h = behind-end xs i (omega arith)
-
 module _ (balances : List ℕ) where
   pub word-widened : (w : ℕ) → getD (widened balances) w 0 ≡ getD balances w 0
   unfolding widened
@@ -49,14 +43,6 @@ module _ (balances : List ℕ) where
   set-widened w v e h = set-append-left balances (replicate 4096 0) w v (omega arith)
 
 -- ---- judging
-
-and-assoc : (a b c : Bool) → ((a && b) && c) ≡ (a && (b && c))
-and-assoc true b c = refl
-and-assoc false b c = refl
-
-and-true : (b : Bool) → (b && true) ≡ b
-and-true true = refl
-and-true false = refl
 
 good-append : (w : ℕ) (xs ys : List ℕ) → goodBalancesFrom w (xs ++ ys) ≡ (goodBalancesFrom w xs && goodBalancesFrom (w + length xs) ys)
 unfolding goodBalancesFrom

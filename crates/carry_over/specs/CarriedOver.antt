@@ -12,6 +12,7 @@ use Rattle.history.specs.Results.{Opened}
 unfoldable pub widened : List ℕ → List ℕ
 widened saved = saved ++ replicate trackingWords 0
 
+-- The number of the move: that of its first cause that applies, 0 if none does.
 unfoldable pub carryNumber : List ℕ → Book → List ℕ → List ℕ → ℕ
 carryNumber calendar book saved balances = firstOf (carryCauses calendar (book .day) saved balances)
 
@@ -20,5 +21,6 @@ unfoldable pub carriedFor : ℕ → Book → List ℕ → List ℕ → Opened
 carriedFor zero book saved balances = record { number = 0; book = book; balances = widened saved }
 carriedFor (suc n) book saved balances = record { number = suc n; book = book; balances = balances }
 
+-- What the move of a book answers and leaves.
 unfoldable pub carried : List ℕ → Book → List ℕ → List ℕ → Opened
 carried calendar book saved balances = carriedFor (carryNumber calendar book saved balances) book saved balances

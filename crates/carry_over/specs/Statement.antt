@@ -29,6 +29,7 @@ unfoldable pub isRepo : Call → Bool
 isRepo (transfer a) = ltb 6 (transferOf (a .message) .code) && leb (transferOf (a .message) .code) 12
 isRepo (close a) = false
 
+-- A list of transfers without repo codes and closes.
 abbrev pub NoRepo : List Call → Type 0
 NoRepo [] = Unit {0}
 NoRepo (call ∷ calls) = (isRepo call ≡ false) × NoRepo calls
@@ -39,6 +40,7 @@ withRepoEmpty r = record { answers = r .answers; book = r .book; balances = wide
 
 -- ---- lists after the move
 
+-- On every book and every 4,096 balances.
 abbrev pub EveryLendingList : Type 0
 EveryLendingList = (calendar tables : List ℕ) (book : Book) (balances : List ℕ) → length balances ≡ trackingWords
     → (calls : List Call) → NoRepo calls
@@ -60,6 +62,7 @@ EveryLaterCall = (calendar : List ℕ) (book : Book) (saved balances : List ℕ)
 
 -- ---- histories on both sides of the move
 
+-- The list before the move left r. The move of what it left is accepted, and both lists are one history.
 pub record CountsBothSides (calendar tables : List ℕ) (day : ℕ) (before after : List Call) (balances : List ℕ) (r : Run) : Type 0 where
   pub accepted : carried calendar (r .book) (r .balances) balances .number ≡ 0
   pub agrees : AgreesWithLedger calendar tables day (before ++ after)
@@ -102,6 +105,7 @@ AllCarryOn ledger book saved (p ∷ before) calendar balances after =
     let j = judged (p .calendar) (p .tables) ledger (p .calls) in
     GoesOn (p .calendar) (p .tables) ledger (p .calls) (withRepoEmpty r) j × AllCarryOn (j .ledger) (r .book) (r .balances) before calendar balances after
 
+-- Every list of periods from an accepted opening of the form with lending alone on, whatever calendar the move gets.
 abbrev pub EveryCarriedPeriod : Type 0
 EveryCarriedPeriod = (calendar tables words : List ℕ) (day : ℕ) → lendingOpened calendar tables words day .number ≡ 0
     → (before : List Period) → NoRepoIn before → (move balances : List ℕ) (after : List Period)

@@ -49,8 +49,11 @@ unfoldable pub lastDayCauses : List ℕ → ℕ → List Cause
 lastDayCauses calendar day = cause 9 (eqb (openAfter calendar (openAfter calendar day)) 0) ∷ []
 
 -- The claims don't fit the claim buffer: number 10.
+abbrev pub noRoom : List Claim → List ℕ → Bool
+noRoom claims buffer = ltb (length buffer) (claimSize * length claims)
+
 unfoldable pub roomCauses : List Claim → List ℕ → List Cause
-roomCauses claims buffer = cause 10 (ltb (length buffer) (claimSize * length claims)) ∷ []
+roomCauses claims buffer = cause 10 (noRoom claims buffer) ∷ []
 
 -- ---- the causes of a call
 
