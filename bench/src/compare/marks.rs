@@ -23,8 +23,8 @@ const OVERWRITTEN: &str = "set mark, over another";
 const CLAIMED: &str = "returned, claimed";
 
 /// What a comparison of many inputs has to meet: each number of both calls; 16 for a length alone, and for a mark outside, by its lowest 16
-/// bits, alone; 17 for each of its reasons alone; 1, 2, 4 and 16 where a later number applies too; a full count returned to; a return that changes each half of the
-/// balances; a set mark overwritten; and a book whose par is claimed behind a return.
+/// bits, alone; 17 for each of its reasons alone; 1, 2, 4 and 16 where a later number applies too; a full count returned to; a return that
+/// changes each half of the balances; a set mark overwritten; and a book whose par is claimed behind a return.
 pub const WANTED: [(&str, RangeInclusive<u16>); 31] = [
     (SET, 0..=0),
     (SET, 1..=1),
@@ -80,13 +80,13 @@ fn reason(words: &[u64]) -> Option<&'static str> {
 
 /// Counts a refusal by what it is for, where that is one thing alone, or with the reasons for other numbers behind its own.
 fn count_refusal(store: &[u64], mark: u32, number: u16, tally: &mut Tally) {
-    let is_outside = mark < 1 || mark > MARKS;
-    let is_long = store.len() != STORE_WORDS;
+    let is_outside = !(1..=MARKS).contains(&mark);
+    let is_other_length = store.len() != STORE_WORDS;
     let is_unset = words(store, mark).is_some_and(|words| words[0] != 1);
-    if matches!(number, 1 | 2 | 4) && (is_outside || is_long) || number == 16 && is_unset {
+    if matches!(number, 1 | 2 | 4) && (is_outside || is_other_length) || number == 16 && is_unset {
         *tally.entry((SEVERAL, number)).or_default() += 1;
     }
-    match (number, is_outside, is_long) {
+    match (number, is_outside, is_other_length) {
         (16, true, false) => *tally.entry((NO_MARK, mark as u16)).or_default() += 1,
         (16, false, true) => *tally.entry((LENGTH, mark as u16)).or_default() += 1,
         (17, ..) => {

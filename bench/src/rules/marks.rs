@@ -19,7 +19,7 @@ fn judge_present<'a>(calendar: &'a [u32], book: Book, balances: &[u64]) -> Resul
 
 /// Where a mark stands in a store.
 fn words_of(mark: u32, store: usize) -> Result<Range<usize>, u16> {
-    if store != STORE_WORDS || mark < 1 || mark > MARKS {
+    if store != STORE_WORDS || !(1..=MARKS).contains(&mark) {
         return Err(16);
     }
     let end = MARK_WORDS * mark as usize;
