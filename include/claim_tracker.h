@@ -147,7 +147,7 @@ enum {
 
 /* The number of a call. 0 is accepted. With any other the call is refused and leaves book, balances, store and buffers as they were. Where
    several apply, the one that stands first here is answered. An opening meets 1 to 4 alone, carrying a book over 1, 2 and 4, setting a mark
-   these and 16, a return to one these, 16 and 17, a reader 5, a writer 10; 12 is met only where limits are lent, 13 to 15 only by a
+   1, 2, 4 and 16, a return to one 1, 2, 4, 16 and 17, a reader 5, a writer 10; 12 is met only where limits are lent, 13 to 15 only by a
    transfer, 16 and 17 only with marks, and 12 to 14 by no record of a run. */
 enum claim_tracker_number {
     CLAIM_TRACKER_ACCEPTED = 0,
