@@ -8,10 +8,10 @@ use Rattle.book.proofs.copy.Statement.{statement}
 use Rattle.book.proofs.copy.Tie as tie
 
 abbrev Inv-loop : tie.InvT-loop
-Inv-loop from to₀ i₀ to i = Copying from to₀ to i
+Inv-loop from to₀ w₀ to w = Copying from to₀ to w
 
 abbrev μ-loop : tie.MeasureT-loop
-μ-loop from to₀ i₀ to i = length from - i
+μ-loop from to₀ w₀ to w = length from - w
 
 loop-holds : tie.Need-loop-holds Inv-loop μ-loop
 loop-holds c = copy-start _ _ (c .pre)
@@ -28,8 +28,8 @@ mul-to-2 c = search needs
 slice-write-to : tie.Need-slice-write-to Inv-loop μ-loop
 slice-write-to c = search needs
 
-add-i : tie.Need-add-i Inv-loop μ-loop
-add-i c = search needs
+add-w : tie.Need-add-w Inv-loop μ-loop
+add-w c = search needs
 
 loop-less : tie.Need-loop-less Inv-loop μ-loop
 loop-less c = search needs
@@ -54,7 +54,7 @@ copy-spec =
     shared-slice-read-to
     mul-to-2
     slice-write-to
-    add-i
+    add-w
     loop-less
     loop-again
     same-length
