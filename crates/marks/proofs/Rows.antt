@@ -41,7 +41,7 @@ setRow =
     && eqb (length s) 32780
 
 settings : Bool
-settings = setRow && sets 20230331 found 0 16 && sets 20230331 found 5 16 && sets 20230331 (take 32779 found) 1 16 && sets 20230401 found 9 4
+settings = setRow && sets 20230331 found 0 16 && sets 20230331 found 5 16 && sets 20230331 (take 32779 found) 1 16 && sets 20230331 (9 ∷ found) 1 16 && sets 20230401 found 9 4
 
 -- ---- going back
 
