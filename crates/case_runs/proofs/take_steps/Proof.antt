@@ -4,10 +4,10 @@ use Rattle.case_runs.proofs.take_steps.Statement.{statement}
 use Rattle.case_runs.proofs.take_steps.Tie as tie
 
 abbrev Inv-loop : tie.InvT-loop
-Inv-loop s calendar₀ tables₀ balances₀ claims₀ book₀ at₀ left₀ calendar tables balances claims book at left = Unit {0}
+Inv-loop s calendar₀ tables₀ balances₀ claims₀ store₀ book₀ at₀ left₀ calendar tables balances claims store book at left = Unit {0}
 
 abbrev μ-loop : tie.MeasureT-loop
-μ-loop s calendar₀ tables₀ balances₀ claims₀ book₀ at₀ left₀ calendar tables balances claims book at left = left
+μ-loop s calendar₀ tables₀ balances₀ claims₀ store₀ book₀ at₀ left₀ calendar tables balances claims store book at left = left
 
 word-at-requires : tie.Need-word-at-requires Inv-loop μ-loop
 word-at-requires c κs = search needs
