@@ -6,7 +6,7 @@
 // payee, security, row, transfer number, interest, principal, release date, slot) and for each balance that is not zero (on loan or on
 // repo, security, lender, borrower, par). Before a carry over each word of its balances holds a stamp; under a refused one stand the words
 // that it changed. Under a call that sets a mark or returns to one stands a line with the checksum of all words of the store, then one for
-// each mark whose first word is not zero: its number and its first three words.
+// each mark that is set: its number, day and count.
 use book::Book;
 use book::Done;
 use call_files::print;
@@ -99,12 +99,11 @@ fn word_of(store: &[u64], at: usize) -> u64 {
     if at < store.len() { store[at] } else { 0 }
 }
 
-// Writes the line of the mark with a number that begins at a place, where its first word is not zero.
+// Writes the line of the mark with a number that begins at a place, where it is set.
 fn print_mark(mark: u64, store: &[u64], at: usize) {
-    if word_of(store, at) != 0 {
+    if word_of(store, at) == 1 {
         print(b" mark");
         print_field(mark);
-        print_field(word_of(store, at));
         print_field(word_of(store, call_files::plus(at, 1)));
         print_field(word_of(store, call_files::plus(at, 2)));
         call_files::print_end();
@@ -241,11 +240,11 @@ fn run_file(buffer: &mut [u8]) {
 }
 
 // The same with a whole buffer, handed on likewise.
-fn run_whole(buffer: &mut [u8; 524288]) {
+fn run_whole(buffer: &mut [u8; 786432]) {
     run_file(buffer);
 }
 
 fn main() {
-    let mut buffer = [0u8; 524288];
+    let mut buffer = [0u8; 786432];
     run_whole(&mut buffer);
 }
