@@ -9,12 +9,12 @@ use lib.Dec.{eqb}
 use lib.ListN.{length, getD, drop, drop-of-length-le}
 use lib.Seq.{drop-cons}
 use borrow.Author.Tests.{eqb-true, eq-eqb, ne-eqb, le-leb, lt-leb, not-false}
-use Rattle.lists.specs.Tests.{or-false-left}
+use Rattle.lists.specs.Tests.{or-false-left, or-false-right}
 use Rattle.lists.specs.First.{firstOf, numbered, appliesAt, cleared, hit, skip, none}
 use Rattle.days.specs.Days.{badCalendar, isOpen, openAfter}
 use Rattle.securities.specs.Securities.{goodTables}
 use Rattle.book.specs.Book.{Position, position}
-use Rattle.book.specs.Soundness.{wrongLength, badDay, goodBalance, goodBalancesFrom, badBalances, tableCauses, stateCauses, wrongCarry, carryCauses}
+use Rattle.book.specs.Soundness.{wrongLength, badDay, goodBalance, goodBalancesFrom, badBalances, tableCauses, stateCauses, wrongCarry, carryCauses, presentCauses}
 
 -- ---- one of two tests
 
@@ -102,6 +102,45 @@ module _ (calendar : List ℕ) (day : ℕ) (saved balances : List ℕ) where
         → n ≡ firstOf (carryCauses calendar day saved balances)
     unfolding carryCauses
     carry-state e k = skip 1 _ carry-lengths (skip 2 _ e k)
+
+-- ---- numbers 1, 2 and 4 of the present book
+
+module _ (calendar : List ℕ) (day : ℕ) (balances : List ℕ) where
+  pub present-calendar : (length calendar ≡ 480 → ⊥) → 1 ≡ firstOf (presentCauses calendar day balances)
+  unfolding presentCauses
+  present-calendar h = hit 1 _ (or-left _ _ (wrong (length calendar) 480 h))
+
+  pub present-balances : (length balances ≡ 8192 → ⊥) → 1 ≡ firstOf (presentCauses calendar day balances)
+  unfolding presentCauses
+  present-balances h = hit 1 _ (or-right (not (eqb (length calendar) 480)) _ (wrong (length balances) 8192 h))
+
+  pub numbered-present : numbered (presentCauses calendar day balances) ≡ true
+  unfolding presentCauses stateCauses numbered
+  numbered-present = refl
+
+  -- what number 0 says of the lengths
+  present-lengths : firstOf (presentCauses calendar day balances) ≡ 0 → not (eqb (length calendar) 480) || not (eqb (length balances) 8192) ≡ false
+  unfolding presentCauses stateCauses appliesAt
+  present-lengths e = cleared 1 (presentCauses calendar day balances) numbered-present e
+
+  pub present-calendar-length : firstOf (presentCauses calendar day balances) ≡ 0 → length calendar ≡ 480
+  present-calendar-length e = eqb-true (length calendar) 480 (not-false _ (or-false-left _ _ (present-lengths e)))
+
+  pub present-balance-length : firstOf (presentCauses calendar day balances) ≡ 0 → length balances ≡ 8192
+  present-balance-length e = eqb-true (length balances) 8192 (not-false _ (or-false-right (not (eqb (length calendar) 480)) _ (present-lengths e)))
+
+  module _ (a : length calendar ≡ 480) (b : length balances ≡ 8192) where
+    right-present : not (eqb (length calendar) 480) || not (eqb (length balances) 8192) ≡ false
+    right-present = rw (eq-eqb (length calendar) 480 a, eq-eqb (length balances) 8192 b)
+
+    pub present-bad-calendar : badCalendar calendar ≡ true → 2 ≡ firstOf (presentCauses calendar day balances)
+    unfolding presentCauses
+    present-bad-calendar e = skip 1 _ right-present (hit 2 _ e)
+
+    pub present-state : {n : ℕ} → badCalendar calendar ≡ false → n ≡ firstOf (stateCauses calendar day balances)
+        → n ≡ firstOf (presentCauses calendar day balances)
+    unfolding presentCauses
+    present-state e k = skip 1 _ right-present (skip 2 _ e k)
 
 -- ---- the day
 

@@ -1,6 +1,6 @@
 -- Computed rows: what each tracking code does to 8,192 balances, when it is refused, which par is off its piece (document 02, card 6),
--- which day is before lending (card 7), which calendars, tables, days, balances and pieces are sound, and which saved book can be carried
--- over (card 8).
+-- which day is before lending (card 7), which calendars, tables, days, balances and pieces are sound, which saved book can be carried over
+-- (card 8), and which book can be marked (card 9).
 use mathlib.Core.Path.{_≡_, refl}
 use mathlib.Core.Bool.{Bool, true, cond, _&&_}
 use mathlib.Core.List.{List, [], _∷_}
@@ -14,7 +14,7 @@ use Rattle.records.specs.declared.Transfer.{Transfer}
 use Rattle.securities.specs.Cases.{caseTables}
 use Rattle.securities.specs.Lent.{ones}
 use Rattle.book.specs.Loans.{changeOf, changed, aboveBalance, pastLimit, postingCauses}
-use Rattle.book.specs.Soundness.{bookCauses, lentBookCauses, openingCauses, carryCauses}
+use Rattle.book.specs.Soundness.{bookCauses, lentBookCauses, openingCauses, carryCauses, presentCauses}
 use Rattle.book.proofs.Opened.{openedBook}
 
 -- ---- loans
@@ -256,6 +256,27 @@ carry =
     && eqb (carryNumber weekdays 20230404 (set saved 4095 1) zeros) 4
     && eqb (carryNumber weekdays 20230404 (set saved 19 9000000001) zeros) 4
 
-rows-hold : all holds rows && posted && early && judged && lent && lentPieces && carry ≡ true
-unfolding openedBook held sent rows flag holds pieces odd postingOn posting posted early number zeros judged lentNumber published lent pieceNumber lentPieces carryNumber saved carry
+-- marks: with 1 before 2, 2 before 4, and 4 for the day and for the present balances
+presentNumber : List ℕ → ℕ → List ℕ → ℕ
+presentNumber calendar day balances = firstOf (presentCauses calendar day balances)
+
+present : Bool
+present =
+    eqb (presentNumber weekdays 20230404 held) 0
+    && eqb (presentNumber weekdays 20030404 (set zeros 8190 9000000000)) 0
+    && eqb (presentNumber (replicate 479 4294967295) 20230401 (set zeros 0 1)) 1
+    && eqb (presentNumber (replicate 481 0) 20230404 zeros) 1
+    && eqb (presentNumber (set weekdays 1 4294967295) 20230401 saved) 1
+    && eqb (presentNumber weekdays 20230404 (replicate 8193 0)) 1
+    && eqb (presentNumber weekdays 20230404 []) 1
+    && eqb (presentNumber (set weekdays 1 4294967295) 20230401 (set zeros 17 1)) 2
+    && eqb (presentNumber weekdays 20230401 zeros) 4
+    && eqb (presentNumber weekdays 20391230 zeros) 4
+    && eqb (presentNumber weekdays 0 zeros) 4
+    && eqb (presentNumber weekdays 20230404 (set zeros 17 1)) 4
+    && eqb (presentNumber weekdays 20230404 (set zeros 8191 1)) 4
+    && eqb (presentNumber weekdays 20230404 (set zeros 19 9000000001)) 4
+
+rows-hold : all holds rows && posted && early && judged && lent && lentPieces && carry && present ≡ true
+unfolding openedBook held sent rows flag holds pieces odd postingOn posting posted early number zeros judged lentNumber published lent pieceNumber lentPieces carryNumber saved carry presentNumber present
 rows-hold = refl

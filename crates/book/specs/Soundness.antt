@@ -1,5 +1,6 @@
 -- Document 01, What can be refused, numbers 1 to 4: calendar, tables, day and balances that a call can work on; document 02, numbers 12 and
--- 13: date limits (card 5) and minimum pieces (card 6) that it can; and card 8: a saved book that can be carried over.
+-- 13: date limits (card 5) and minimum pieces (card 6) that it can; and a saved book that can be carried over (card 8), or that can be marked
+-- and left for a mark (card 9).
 use mathlib.Core.Bool.{Bool, true, not, _&&_, _||_}
 use mathlib.Core.List.{List, [], _∷_, _++_}
 use Prim.Native.Nat.{ℕ, suc}
@@ -73,8 +74,15 @@ unfoldable pub wrongCarry : List ℕ → List ℕ → List ℕ → Bool
 wrongCarry calendar saved balances =
     not (eqb (length calendar) calendarWords) || not (eqb (length saved) trackingWords) || not (eqb (length balances) balanceWords)
 
--- Carrying a book over can meet 1, 2, and 4 for its day and its saved balances. It is lent no tables, and what the balances held does not
--- matter.
+-- Numbers 1, 2 and 4 of a call that is lent no tables, by whether a length is wrong.
+abbrev pub untabledCauses : Bool → List ℕ → ℕ → List ℕ → List Cause
+untabledCauses wrong calendar day balances = cause 1 wrong ∷ cause 2 (badCalendar calendar) ∷ stateCauses calendar day balances
+
+-- Carrying a book over can meet 1, 2, and 4 for its day and its saved balances. What the balances held does not matter.
 unfoldable pub carryCauses : List ℕ → ℕ → List ℕ → List ℕ → List Cause
-carryCauses calendar day saved balances =
-    cause 1 (wrongCarry calendar saved balances) ∷ cause 2 (badCalendar calendar) ∷ stateCauses calendar day saved
+carryCauses calendar day saved balances = untabledCauses (wrongCarry calendar saved balances) calendar day saved
+
+-- Setting a mark and going back to one can meet 1, 2 and 4 for the present book, before what they can meet for the mark.
+unfoldable pub presentCauses : List ℕ → ℕ → List ℕ → List Cause
+presentCauses calendar day balances =
+    untabledCauses (not (eqb (length calendar) calendarWords) || not (eqb (length balances) balanceWords)) calendar day balances

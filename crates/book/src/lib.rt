@@ -1,8 +1,10 @@
-// The book and its balances (document 01, sections The book and Loans): their types, the answer to a refused call, and clearing. The
+// The book and its balances (document 01, sections The book and Loans): their types, the answer to a refused call, clearing and copying. The
 // definitions stand in specs/, with those of the numbers 1 to 4, 7 and 8 of what can be refused, and their laws in proofs/; the crate
 // judging has the code of numbers 1 to 4, the crate loans that of 7 and 8.
 ghost use mathlib.Core.Path.{_≡_};
-ghost use lib.ListN.{length, replicate};
+ghost use mathlib.Core.List.{_++_};
+ghost use Prim.Native.Nat.{_≤_};
+ghost use lib.ListN.{length, drop, replicate};
 
 // A book's day and the number of its accepted transfers.
 #[repr(C)]
@@ -43,6 +45,18 @@ pub fn clear(balances: &mut [u64])
     let mut i: usize = 0;
     while i < balances.len() {
         balances[i] = 0;
+        i += 1;
+    }
+}
+
+// Copies words to the start of others.
+pub fn copy(from: &[u64], to: &mut [u64])
+    requires { ⌜ length (now from) ≤ length (now to) ⌝ }
+    ensures { λ _. ⌜ now (to .exit) ≡ now (from .entry) ++ drop (length (now (from .entry))) (now (to .entry)) ⌝ }
+{
+    let mut i: usize = 0;
+    while i < from.len() {
+        to[i] = from[i];
         i += 1;
     }
 }

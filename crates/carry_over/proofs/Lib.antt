@@ -1,4 +1,3 @@
-pub mod Copied
 pub mod Carried
 pub mod Zeros
 pub mod Widened

@@ -2,25 +2,10 @@
 // The definitions stand in specs/, with the form with lending alone; that lists of calls go on as in that form, and that a history counts
 // both sides of the move, is proved in proofs/.
 ghost use mathlib.Core.Path.{_≡_};
-ghost use mathlib.Core.List.{_++_};
-ghost use Prim.Native.Nat.{_≤_};
-ghost use lib.ListN.{length, drop};
 ghost use Rattle.history.specs.Results.{leftOpen};
 ghost use Rattle.carry_over.specs.CarriedOver.{carried};
 use book::Book;
 use book::Done;
-
-// Copies saved words to the start of balances.
-fn copy_saved(saved: &[u64], balances: &mut [u64])
-    requires { ⌜ length (now saved) ≤ length (now balances) ⌝ }
-    ensures { λ _. ⌜ now (balances .exit) ≡ now (saved .entry) ++ drop (length (now (saved .entry))) (now (balances .entry)) ⌝ }
-{
-    let mut i: usize = 0;
-    while i < saved.len() {
-        balances[i] = saved[i];
-        i += 1;
-    }
-}
 
 // Carries a book over: the balances become the saved ones on loan, with repo empty. The book comes back as it was given; refused, with 1, 2
 // or 4, the balances are left.
@@ -33,7 +18,7 @@ pub fn carry_over(calendar: &[u32], book: Book, saved: &[u64], balances: &mut [u
         return book::refused(number, book);
     }
     book::clear(&mut balances[book::TRACKING_WORDS..]);
-    copy_saved(saved, balances);
+    book::copy(saved, balances);
     Done {
         number: 0,
         book,

@@ -1,5 +1,6 @@
 // Judges calendar, tables, a book's day and its balances (document 01, section The book), with the numbers 1 to 4 of what can be refused,
-// and date limits and minimum pieces (document 02, cards 5 and 6), with numbers 12 and 13; so a saved book that is carried over (card 8).
+// and date limits and minimum pieces (document 02, cards 5 and 6), with numbers 12 and 13; so a saved book that is carried over (card 8), and
+// one that is marked or left for a mark (card 9).
 // Calendar, tables, balances, limits and pieces are taken in any length where a function gives the number for it.
 ghost use mathlib.Core.Path.{_≡_};
 ghost use mathlib.Core.Bool.{true};
@@ -7,7 +8,7 @@ ghost use lib.ListN.{length};
 ghost use Rattle.lists.specs.First.{firstOf};
 ghost use Rattle.lists.specs.Sums.{sum};
 ghost use Rattle.book.specs.Book.{position};
-ghost use Rattle.book.specs.Soundness.{badDay, goodBalance, badBalances, tableCauses, stateCauses, bookCauses, lentBookCauses, openingCauses, carryCauses};
+ghost use Rattle.book.specs.Soundness.{badDay, goodBalance, badBalances, tableCauses, stateCauses, bookCauses, lentBookCauses, openingCauses, carryCauses, presentCauses};
 ghost use Rattle.judging.specs.Quick.{excessOf, ownPars};
 use days::Day;
 
@@ -129,7 +130,7 @@ fn bad_balances(balances: &[u64]) -> bool
 }
 
 // The number 4 where a book's day or its balances meet it, else 0.
-fn state_number(calendar: &[u32], day: u32, balances: &[u64]) -> u16
+pub fn state_number(calendar: &[u32], day: u32, balances: &[u64]) -> u16
     requires { ⌜ length (now calendar) ≡ 480 ⌝ }
     ensures { λ r. ⌜ r ≡ firstOf (stateCauses (now (calendar .entry)) day (now (balances .entry))) ⌝ }
 {
@@ -209,4 +210,20 @@ pub fn carry_number(calendar: &[u32], day: u32, saved: &[u64], balances: &[u64])
         return 2;
     }
     state_number(calendar, day, saved)
+}
+
+// The first of the numbers 1, 2 and 4 that calendar and present book meet where a mark is set or gone back to, 0 where they meet none.
+pub fn present_number(calendar: &[u32], day: u32, balances: &[u64]) -> u16
+    ensures { λ r. ⌜ r ≡ firstOf (presentCauses (now (calendar .entry)) day (now (balances .entry))) ⌝ }
+{
+    if calendar.len() != CALENDAR_WORDS {
+        return 1;
+    }
+    if balances.len() != BALANCE_WORDS {
+        return 1;
+    }
+    if days::bad_calendar(calendar) {
+        return 2;
+    }
+    state_number(calendar, day, balances)
 }

@@ -1,8 +1,9 @@
-// Opening, carrying over, transfer and close for C and Rust callers. A slice passes as a pointer and a count of its elements.
+// Opening, carrying over, marks, transfer and close for C and Rust callers. A slice passes as a pointer and a count of its elements.
 ghost use mathlib.Core.Path.{_≡_};
 ghost use Rattle.history.specs.Calls.{Call, lentTransfer, publishedTransfer};
 ghost use Rattle.history.specs.Results.{Gives, leftOpen, opened};
 ghost use Rattle.carry_over.specs.CarriedOver.{carried};
+ghost use Rattle.marks.specs.Marks.{leftMark, marked, returned};
 use book::Book;
 use book::Done;
 
@@ -34,6 +35,37 @@ pub extern "C" fn claim_tracker_carry_over(
         × (r .claims ≡ 0) ⌝ }
 {
     carry_over::carry_over(calendar, book, saved, balances)
+}
+
+// Sets a mark, 1 to 4, of a store: its words become 1, day, count and balances, whatever they were. All other words are left; refused, with
+// 1, 2, 4 or 16, all are.
+#[no_mangle]
+pub extern "C" fn claim_tracker_set_mark(
+    calendar: &[u32],
+    book: Book,
+    balances: &[u64],
+    store: &mut [u64],
+    mark: u32,
+) -> u16
+    ensures { λ r. ⌜ leftMark r (now (store .exit)) ≡ marked (now (calendar .entry)) book (now (balances .entry)) (now (store .entry)) mark ⌝ }
+{
+    marks::set_mark(calendar, book, balances, store, mark)
+}
+
+// Goes back to a mark: it returns the book of the mark, and the balances become those of the mark. Refused, with 1, 2, 4, 16 or 17, it returns
+// the book given and leaves the balances.
+#[no_mangle]
+pub extern "C" fn claim_tracker_return_to_mark(
+    calendar: &[u32],
+    book: Book,
+    balances: &mut [u64],
+    store: &[u64],
+    mark: u32,
+) -> Done
+    ensures { λ r. ⌜ (leftOpen r (now (balances .exit)) ≡ returned (now (calendar .entry)) book (now (balances .entry)) (now (store .entry)) mark)
+        × (r .claims ≡ 0) ⌝ }
+{
+    marks::return_to_mark(calendar, book, balances, store, mark)
 }
 
 // Works a transfer with the published maximum numbers: judges its par by the pieces of the securities, posts it, and writes its claims from

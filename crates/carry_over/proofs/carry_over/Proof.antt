@@ -38,9 +38,9 @@ part-clear-end c = search needs
 clear-requires : tie.Need-clear-requires
 clear-requires c κs = search needs
 
-copy-saved-requires : tie.Need-copy-saved-requires
+copy-requires : tie.Need-copy-requires
 unfolding carryNumber
-copy-saved-requires c κs =
+copy-requires c κs =
     let a = c .before .before .before .before .before .before .before .before .before .before .before .args in
     saved-fits (a .calendar .now) (a .book) (a .saved .now) (a .balances .now) _ _ (c .before .before .before .before .before .before .carry-number .ensures)
     (c .before .before .before .before .before .if1 .left) _ (c .before .before .before .clear .ensures)
@@ -53,7 +53,7 @@ unfolding carryNumber
 returns-2 c =
     let a = c .before .before .before .before .before .before .before .before .before .before .before .before .before .before .args in (
       carry-accepted (a .calendar .now) (a .book) (a .saved .now) (a .balances .now) _ _ _ (c .before .before .before .before .before .before .before .before .before .carry-number .ensures) (c .before .before .before .before .before .before .before .before .if1 .left)
-          (c .before .before .before .before .before .before .clear .ensures) (c .before .before .copy-saved .ensures),
+          (c .before .before .before .before .before .before .clear .ensures) (c .before .before .copy .ensures),
       refl,
     )
 
@@ -69,6 +69,6 @@ carry-over-spec =
     part-clear-start
     part-clear-end
     clear-requires
-    copy-saved-requires
+    copy-requires
     same-length-2
     returns-2)
