@@ -933,7 +933,7 @@ def made_calls(run, calls, more=""):
 
 def trials_of_a_list():
     """One list of calls with a mark set at four places of it, of which one is behind its end; each is returned to, and the calls behind it are
-    made again. Then the same from other marks than the last one."""
+    made again. Then returns from one mark's history to another's, with other calls."""
     run = trial_run("list")
     parts = (
         {"lent": ((1, 2, 0, 50_000, 1), {}), "repo": ((1, 2, 0, 40_000, 7), {}), "lent-in-the-last-security": ((15, 14, 15, 70_000, 5), {})},
@@ -947,13 +947,15 @@ def trials_of_a_list():
         made_calls(run, part)
         for mark in (mark for mark, place in places.items() if place == i + 1):
             run.set_mark("mark-%d" % mark, mark)
-    for mark in (3, 1, 4, 2, 1):
+    for mark in (3, 1, 4, 2):
         run.go_back("return-to-%d" % mark, mark)
-        if mark == 1:
-            run.go_back("return-to-%d-twice" % mark, mark)
+        run.go_back("return-to-%d-twice" % mark, mark)
         for part in parts[places[mark]:]:
             made_calls(run, part, "-after-%d" % mark)
-    run.go_back("return-to-2-from-its-end", 2)
+    run.go_back("return-to-1-from-2", 1)
+    run.transfer("loan-returned-after-1", 2, 1, 0, 50_000, 3)
+    run.close("close-with-the-repo-after-1")
+    run.go_back("return-to-2-from-1", 2)
     run.go_back("return-to-3-from-2", 3)
     run.close("close-after-3-from-2")
 
@@ -968,8 +970,8 @@ def trials_crosswise():
     run.set_mark("mark-2", 2)
     run.transfer("repo", 1, 2, 0, 30_000, 7)
     run.close("close-with-both")
-    for mark in (1, 2, 1):
-        run.go_back("return-to-%d" % mark, mark)
+    for name, mark in (("return-to-1", 1), ("return-to-2", 2), ("return-to-1-again", 1)):
+        run.go_back(name, mark)
     run.transfer("lent-in-its-place", 1, 2, 0, 25_000, 1)
     run.go_back("return-to-3-unset", 3)
     run.go_back("return-to-0", 0)
