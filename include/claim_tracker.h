@@ -34,6 +34,13 @@
    and an open day follows it. All of it is the caller's, who may store it and go on later. A book saved before repos were tracked has 4,096
    words, those on loan: claim_tracker_carry_over makes the 8,192 of them, with nothing on repo, and every other call refuses them with 1.
 
+   Marks: a store of 32,780 words of 64 bits holds four marks, 1 to 4, of 8,195 words each, for claim_tracker_set_mark and
+   claim_tracker_return_to_mark. Mark k begins at word 8195 * (k - 1): 1 where it is set (any other number is unset), the day, the count,
+   then the 8,192 balances. The store is the caller's, and zeros are a store without a set mark. It can be kept, and its old marks returned
+   to later. After a return to a mark that these calls set and nobody else wrote, day, count, balances and what later calls answer, write and
+   owe are those of the history that ended at the mark. The claims handed out between the mark and the return are the caller's to drop. A
+   mark does not say whose it is: a return to one of another book brings that book's history back, so a store serves one book.
+
    book.dat, 9,220 bytes: the calendar, the tables and the opening day, in this order, each word of 4 bytes.
 
    Records: two bytes that count those behind them, two of the kind, then the fields, one behind the other:
@@ -74,9 +81,9 @@
 #include <stdint.h>
 
 #define CLAIM_TRACKER_VERSION_MAJOR 2
-#define CLAIM_TRACKER_VERSION_MINOR 2
+#define CLAIM_TRACKER_VERSION_MINOR 3
 #define CLAIM_TRACKER_VERSION_PATCH 0
-#define CLAIM_TRACKER_VERSION "2.2.0"
+#define CLAIM_TRACKER_VERSION "2.3.0"
 
 /* Every function answers a number that a caller has to look at, and takes no null pointer; compilers that can, watch over both. */
 #if defined(__GNUC__)
@@ -101,7 +108,8 @@
 extern "C" {
 #endif
 
-/* How many there are: accounts, securities, rows of a security, and words. The words on loan are the first half of the balances. */
+/* How many there are: accounts, securities, rows of a security, words, and marks of a store. The words on loan are the first half of the
+   balances. */
 enum {
     CLAIM_TRACKER_ACCOUNTS = 16,
     CLAIM_TRACKER_SECURITIES = 16,
@@ -113,7 +121,10 @@ enum {
     CLAIM_TRACKER_LIMIT_WORDS = 5,
     CLAIM_TRACKER_PIECE_WORDS = 16,
     CLAIM_TRACKER_LENDING_WORDS = 4096,
-    CLAIM_TRACKER_BALANCE_WORDS = 8192
+    CLAIM_TRACKER_BALANCE_WORDS = 8192,
+    CLAIM_TRACKER_MARKS = 4,
+    CLAIM_TRACKER_MARK_WORDS = 8195,
+    CLAIM_TRACKER_STORE_WORDS = 32780
 };
 
 /* Bytes of the records, of a line of free text and of book.dat, and the output that claim_tracker_serve needs for a record. */
@@ -134,9 +145,10 @@ enum {
 };
 #define CLAIM_TRACKER_CLAIM_ROOM(n) ((size_t)CLAIM_TRACKER_CLAIM_BYTES * (size_t)(n))
 
-/* The number of a call. 0 is accepted. With any other the call is refused and leaves book, balances and buffers as they were. Where several
-   apply, the one that stands first here is answered. An opening meets 1 to 4 alone, carrying a book over 1, 2 and 4, a reader 5, a writer
-   10; 12 is met only where limits are lent, 13 to 15 only by a transfer, and 12 to 14 by no record of a run. */
+/* The number of a call. 0 is accepted. With any other the call is refused and leaves book, balances, store and buffers as they were. Where
+   several apply, the one that stands first here is answered. An opening meets 1 to 4 alone, carrying a book over 1, 2 and 4, setting a mark
+   1, 2, 4 and 16, a return to one 1, 2, 4, 16 and 17, a reader 5, a writer 10; 12 is met only where limits are lent, 13 to 15 only by a
+   transfer, 16 and 17 only with marks, and 12 to 14 by no record of a run. */
 enum claim_tracker_number {
     CLAIM_TRACKER_ACCEPTED = 0,
     CLAIM_TRACKER_WRONG_LENGTH = 1,             /* calendar, tables, balances or saved balances have another number of words */
@@ -146,6 +158,9 @@ enum claim_tracker_number {
     CLAIM_TRACKER_BAD_PIECES = 13,              /* the pieces lent are not sixteen, or one is not 1 to 1,000,000 */
     CLAIM_TRACKER_BAD_BOOK = 4,                 /* the day is not open or no open day follows it; a balance is above 9,000,000,000, or an
                                                    account's with itself is not 0 */
+    CLAIM_TRACKER_NO_SUCH_MARK = 16,            /* the mark is not 1 to 4, or the store has another number of words */
+    CLAIM_TRACKER_BAD_MARK = 17,                /* a return, and the mark is unset, its count is above 4,294,967,295, or its day or a
+                                                   balance of it is one that 4 refuses */
     CLAIM_TRACKER_BAD_RECORD = 5,               /* the record is cut short, or its length or kind is not the call's */
     CLAIM_TRACKER_BAD_FIELD = 6,                /* an account or a security above 15, an unused security, a class above 1, a code above 12,
                                                    a par of 0 or above 100,000,000, or the sender is the receiver */
@@ -278,6 +293,10 @@ static inline const char *claim_tracker_text(unsigned int number) {
         return "the par is no multiple of the security's piece and does not clear the whole balance";
     case CLAIM_TRACKER_LENDING_TOO_EARLY:
         return "a tracking code of lending on a day before 20230130";
+    case CLAIM_TRACKER_NO_SUCH_MARK:
+        return "the mark is not 1 to 4, or the store has a wrong length";
+    case CLAIM_TRACKER_BAD_MARK:
+        return "the mark is unset, or its count, its day or a balance of it is wrong";
     case CLAIM_TRACKER_SEVERAL_TAGS:
         return "more than one Contract Date tag opens";
     case CLAIM_TRACKER_UNENDED_TAG:
@@ -385,6 +404,21 @@ struct claim_tracker_done claim_tracker_open(const uint32_t *calendar, size_t ca
 CLAIM_TRACKER_CALL CLAIM_TRACKER_NONNULL
 struct claim_tracker_done claim_tracker_carry_over(const uint32_t *calendar, size_t calendar_words, struct claim_tracker_book book,
                                                    const uint64_t *saved, size_t saved_words, uint64_t *balances, size_t balance_words);
+
+/* Sets a mark of the store, 1 to 4: writes 1, the book's day, its count and the balances over the mark's 8,195 words, whatever they held,
+   and answers 0. All other words of the store stay; book and balances are only read. Refused, with 1, 2, 4 or 16: the number, and the store
+   as it was. */
+CLAIM_TRACKER_CALL CLAIM_TRACKER_NONNULL
+uint16_t claim_tracker_set_mark(const uint32_t *calendar, size_t calendar_words, struct claim_tracker_book book, const uint64_t *balances,
+                                size_t balance_words, uint64_t *store, size_t store_words, uint32_t mark);
+
+/* Returns to a mark of the store: number 0, the mark's day and count as the book, and the balances become the mark's. The store is only
+   read: its marks stay, and can be returned to again. The book and the balances given are judged first, with 4, and then what the mark
+   holds, with 17. Refused, with 1, 2, 4, 16 or 17: the number, the book given, and the balances as they were. The claims are always 0. */
+CLAIM_TRACKER_CALL CLAIM_TRACKER_NONNULL
+struct claim_tracker_done claim_tracker_return_to_mark(const uint32_t *calendar, size_t calendar_words, struct claim_tracker_book book,
+                                                       uint64_t *balances, size_t balance_words, const uint64_t *store, size_t store_words,
+                                                       uint32_t mark);
 
 /* Works the transfer at the message's start: posts its par, counts it and writes its fail claims and then its interim claims from the claim
    buffer's start; the bytes behind them stay. The pieces are judged whatever the tracking code is. Refused: the number, the book given, no

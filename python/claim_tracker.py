@@ -1,9 +1,9 @@
 """The claim tracker in Python: the calls, records and numbers of claim_tracker.h, by the shared library.
 
-Calendar, tables, limits and pieces are array('I'), balances array('Q'), buffers that a call writes to bytearray, and messages bytes; other
-objects that give such memory will do. A transfer that is given no pieces lends sixteen ones. A refused call answers its number. A wrong
-type, a value that its field cannot hold, a buffer that cannot be written to or buffers that overlap raise TypeError or ValueError, and
-nothing is called. FORMATS.md says what the words and bytes mean.
+Calendar, tables, limits and pieces are array('I'), balances and stores of marks array('Q'), buffers that a call writes to bytearray, and
+messages bytes; other objects that give such memory will do. A transfer that is given no pieces lends sixteen ones. A refused call answers
+its number. A wrong type, a value that its field cannot hold, a buffer that cannot be written to or buffers that overlap raise TypeError or
+ValueError, and nothing is called. FORMATS.md says what the words and bytes mean.
 
 The library is the file that the environment variable CLAIM_TRACKER_LIBRARY names, else libclaim_tracker.so.2 beside this module.
 """
@@ -15,7 +15,7 @@ from dataclasses import dataclass
 from enum import IntEnum
 from typing import NamedTuple
 
-__version__ = "2.2.0"
+__version__ = "2.3.0"
 
 ACCOUNTS = 16
 SECURITIES = 16
@@ -28,6 +28,9 @@ LIMIT_WORDS = 5
 PIECE_WORDS = 16
 LENDING_WORDS = 4096
 BALANCE_WORDS = 8192
+MARKS = 4
+MARK_WORDS = 8195
+STORE_WORDS = 32780
 TRANSFER_BYTES = 141
 CLOSE_BYTES = 4
 CLAIM_BYTES = 35
@@ -50,6 +53,8 @@ class Number(IntEnum):
     BAD_LIMITS = 12
     BAD_PIECES = 13
     BAD_BOOK = 4
+    NO_SUCH_MARK = 16
+    BAD_MARK = 17
     BAD_RECORD = 5
     BAD_FIELD = 6
     SEVERAL_TAGS = 132
@@ -155,6 +160,8 @@ _TEXTS = {
     Number.BAD_PIECES: "the pieces have a wrong length or a number outside 1 to 1,000,000",
     Number.OFF_PIECE: "the par is no multiple of the security's piece and does not clear the whole balance",
     Number.LENDING_TOO_EARLY: "a tracking code of lending on a day before 20230130",
+    Number.NO_SUCH_MARK: "the mark is not 1 to 4, or the store has a wrong length",
+    Number.BAD_MARK: "the mark is unset, or its count, its day or a balance of it is wrong",
     Number.SEVERAL_TAGS: "more than one Contract Date tag opens",
     Number.UNENDED_TAG: "a Contract Date tag without } in its line",
     Number.TAG_WITHOUT_DATE: "the Contract Date tag holds no date",
@@ -278,6 +285,8 @@ _LENT = (ctypes.c_void_p, _SIZE)
 _FUNCTIONS = {
     "open": (_DONE, *_LENT, *_LENT, *_LENT, _U32),
     "carry_over": (_DONE, *_LENT, _BOOK, *_LENT, *_LENT),
+    "set_mark": (_U16, *_LENT, _BOOK, *_LENT, *_LENT, _U32),
+    "return_to_mark": (_DONE, *_LENT, _BOOK, *_LENT, *_LENT, _U32),
     "transfer": (_DONE, *_LENT, *_LENT, *_LENT, _BOOK, *_LENT, *_LENT, *_LENT),
     "transfer_with_limits": (_DONE, *_LENT, *_LENT, *_LENT, *_LENT, _BOOK, *_LENT, *_LENT, *_LENT),
     "close": (_DONE, *_LENT, *_LENT, _BOOK, *_LENT, *_LENT, *_LENT),
@@ -407,6 +416,11 @@ def new_balances():
     return array("Q", bytes(8 * BALANCE_WORDS))
 
 
+def new_store():
+    """A store of 32,780 words of 0: four marks that are not set."""
+    return array("Q", bytes(8 * STORE_WORDS))
+
+
 def new_pieces():
     """16 pieces of 1, for a caller that changes some of them."""
     return array("I", [1]) * PIECE_WORDS
@@ -445,6 +459,20 @@ def carry_over(calendar, book, saved, balances):
     as given. Refused, with 1, 2 or 4: the balances stay. The saved ones are only read."""
     lent = _apart(_Lent("calendar", calendar, _U32), _Lent("saved", saved, _U64), _Lent("balances", balances, _U64, True))
     return _done(_CALLS["carry_over"](*lent[:2], _fields("book", Book, _BOOK, book), *lent[2:]))
+
+
+def set_mark(calendar, book, balances, store, mark):
+    """Sets a mark of the store, 1 to 4: its words become 1, day, count and the balances. The number alone; refused, with 1, 2, 4 or 16, the
+    store stays. The balances are only read."""
+    lent = _apart(_Lent("calendar", calendar, _U32), _Lent("balances", balances, _U64), _Lent("store", store, _U64, True))
+    return Number(_CALLS["set_mark"](*lent[:2], _fields("book", Book, _BOOK, book), *lent[2:], _whole("mark", mark, _U32)))
+
+
+def return_to_mark(calendar, book, balances, store, mark):
+    """Returns to a mark of the store: the book is the mark's, and the balances become the mark's. Refused, with 1, 2, 4, 16 or 17: the book
+    given, and the balances stay. The store is only read."""
+    lent = _apart(_Lent("calendar", calendar, _U32), _Lent("balances", balances, _U64, True), _Lent("store", store, _U64))
+    return _done(_CALLS["return_to_mark"](*lent[:2], _fields("book", Book, _BOOK, book), *lent[2:], _whole("mark", mark, _U32)))
 
 
 def _arguments(words, book, balances, message, claims):

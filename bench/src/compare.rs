@@ -1,4 +1,6 @@
 //! Compares the library with the Rust rules on random inputs and stops at the first difference.
+mod marks;
+
 use crate::inputs::{self, World};
 use crate::random::Random;
 use crate::tracker;
@@ -46,6 +48,9 @@ const TOO_MUCH_SAVED: &str = "carry over, too much";
 const SAVED_DAY: &str = "carry over, bad day";
 const SEVERAL: &str = "carry over, several";
 const CARRIED_CLAIM: &str = "carried, loans claimed";
+
+/// Any number but 0.
+const SOME: RangeInclusive<u16> = 1..=u16::MAX;
 
 /// How often each kind of input got each number.
 type Tally = BTreeMap<(&'static str, u16), u64>;
@@ -392,10 +397,9 @@ fn compare_serve(random: &mut Random, tally: &mut Tally) -> Result<(), String> {
 /// tag accepted, of class 1 too, and refused on a later day; a fail with more claims than its limit, also where several wait, one with a
 /// row on the edge of the half year, there since a month is short too, and one before it; a fail in no MBS; and a close into a later day. Of
 /// carry overs: each of their numbers, 1 and 2 where others apply too, 4 for each of its reasons alone, one accepted before the memo and
-/// later, on bad words in each half of the balances, and a book carried over whose loans are claimed.
+/// later, on bad words in each half of the balances, and a book carried over whose loans are claimed. Of marks: what `marks::WANTED` says.
 fn judge(tally: &Tally, count: u64) -> Result<(), String> {
     const MANY: u64 = 10_000;
-    const SOME: RangeInclusive<u16> = 1..=u16::MAX;
     let wanted = [
         (ROWS_DROPPED, SOME),
         (PAID_BEHIND, SOME),
@@ -450,9 +454,10 @@ fn judge(tally: &Tally, count: u64) -> Result<(), String> {
         (CARRIED_ONTO, SOME),
         (CARRIED_CLAIM, SOME),
     ];
+    let mut wanted = wanted.into_iter().chain(marks::WANTED);
     let is_met =
         |(name, numbers): &(&str, RangeInclusive<u16>)| tally.keys().any(|(kind, n)| kind == name && numbers.contains(n));
-    match wanted.into_iter().find(|what| !is_met(what)) {
+    match wanted.find(|what| !is_met(what)) {
         Some((name, numbers)) if count >= MANY => Err(format!("{count} inputs and none with '{name}' {numbers:?}")),
         _ => Ok(()),
     }
@@ -466,15 +471,16 @@ pub fn run(seed: u64, count: u64) -> Result<(), String> {
         let seed = seed.wrapping_add(case);
         let mut random = Random::new(seed);
         random.word();
-        let compared = match random.below(9) {
+        let compared = match random.below(10) {
             0 => compare_open(&mut random, &mut tally),
             1 => compare_carry_over(&mut random, &mut tally),
-            2..7 => compare_calls(&mut random, &mut tally),
+            2 => marks::compare(&mut random, &mut tally),
+            3..8 => compare_calls(&mut random, &mut tally),
             _ => compare_serve(&mut random, &mut tally),
         };
         compared.map_err(|difference| format!("seed {seed}: {difference}"))?;
     }
-    println!("{count} inputs from seed {seed}, no difference in any answer, book, balance, claim buffer or output");
+    println!("{count} inputs from seed {seed}, no difference in any answer, book, balance, store, claim buffer or output");
     println!("how often each number was answered, and each outcome given:");
     for ((name, number), times) in &tally {
         println!("  {name:22} {number:3} {times:9}");

@@ -1,6 +1,9 @@
-//! Inputs: calendars, tables, limits, pieces, balances and messages, sound and damaged.
+//! Inputs: calendars, tables, limits, pieces, balances, stores of marks and messages, sound and damaged.
 use crate::random::Random;
-use bench::rules::{Book, CALENDAR_WORDS, LIMIT_WORDS, PIECE_WORDS, PUBLISHED, TABLE_WORDS, TRACKING_WORDS};
+use bench::rules::{
+    BALANCE_WORDS, Book, CALENDAR_WORDS, LIMIT_WORDS, MARK_WORDS, PIECE_WORDS, PUBLISHED, STORE_WORDS, TABLE_WORDS,
+    TRACKING_WORDS,
+};
 use std::ops::Range;
 
 pub const MOST_LENT: u64 = 9_000_000_000;
@@ -391,6 +394,74 @@ pub fn saved_world(random: &mut Random) -> (World, Vec<u64>) {
         world.calendar[at] |= 1 << 31;
     }
     (world, saved)
+}
+
+/// Spoils a mark: its flag, its day or bits above it, its count, or a balance.
+fn spoil_mark(random: &mut Random, mark: &mut [u64]) {
+    match random.below(6) {
+        0 => mark[0] = random.pick(&[0, 2, 257, 1 << 63, (1 << 32) + 1, u64::MAX]),
+        1 => mark[1] |= 1 << random.from(32, 63),
+        2 => mark[1] = other(random, mark[1] as u32) as u64,
+        3 => mark[2] = random.pick(&[u32::MAX as u64, 1 << 32, (1 << 32) + 5, 1 << 63, u64::MAX]),
+        _ => spoil(random, &mut mark[3..]),
+    }
+}
+
+/// What setting a mark and returning to one take: a world, and a store that holds any words where no mark is set. Some marks are spoilt, and
+/// some stores have another length. Some calendars have a bit that no month has.
+pub fn marked_world(random: &mut Random) -> (World, Vec<u64>) {
+    let mut world = world(random);
+    let open = open_dates(&world.calendar);
+    let words = random.word();
+    let mut store = vec![random.pick(&[0, 1, 7, u64::MAX, words]); STORE_WORDS];
+    let saved = balances(random);
+    for mark in store.chunks_mut(MARK_WORDS) {
+        if random.one_in(4) {
+            continue;
+        }
+        let day = if open.is_empty() || random.one_in(2) { world.book.day } else { random.pick(&open) };
+        let count = random.pick(&[0, 5, world.book.count, u32::MAX]);
+        let is_same = world.balances.len() == BALANCE_WORDS && random.one_in(4);
+        mark[..3].copy_from_slice(&[1, day as u64, count as u64]);
+        mark[3..].copy_from_slice(if is_same { &world.balances } else { &saved });
+        if random.one_in(3) {
+            spoil_mark(random, mark);
+        }
+    }
+    match random.below(16) {
+        0 => cut(random, &mut store),
+        1 => store.resize(random.pick(&[STORE_WORDS - 1, STORE_WORDS + 1, 2 * MARK_WORDS, 5 * MARK_WORDS]), 1),
+        2 if !world.calendar.is_empty() => {
+            let at = random.place(&world.calendar);
+            world.calendar[at] |= 1 << 31;
+        }
+        _ => {}
+    }
+    (world, store)
+}
+
+/// A mark to set or to return to: mostly one of the four, some of the others beside them or the same in their lowest bits.
+pub fn mark(random: &mut Random) -> u32 {
+    let one = random.from(1, 4) as u32;
+    match random.below(10) {
+        0 => random.pick(&[0, 5, 6, 256 + one, 65536 + one, 1 << 31 | one, u32::MAX]),
+        _ => one,
+    }
+}
+
+/// Goes on with a book: some of its balances are others, a transfer more may be counted, and its day may be another open one.
+pub fn go_on(random: &mut Random, world: &mut World) {
+    for _ in 0..random.below(4) {
+        let at = random.below(BALANCE_WORDS as u64) as usize;
+        if let Some(word) = world.balances.get_mut(at).filter(|_| at / 16 % 16 != at % 16) {
+            *word = random.below(MOST_LENT + 1);
+        }
+    }
+    world.book.count = world.book.count.saturating_add(random.below(2) as u32);
+    let open = open_dates(&world.calendar);
+    if random.one_in(3) && !open.is_empty() {
+        world.book.day = random.pick(&open);
+    }
 }
 
 /// Date limits: good ones, the published numbers, another length, a number at the edge of its range, or one above the one before.

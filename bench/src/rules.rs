@@ -1,8 +1,9 @@
-//! The rules of document 01, with cards 1 to 8 of document 02, in Rust: opening, carrying over, transfer, close and a run of records.
+//! The rules of document 01, with cards 1 to 9 of document 02, in Rust: opening, carrying over, marks, transfer, close and a run of records.
 mod book;
 mod claims;
 mod days;
 mod limits;
+mod marks;
 mod pieces;
 mod records;
 mod serve;
@@ -12,6 +13,7 @@ mod tags;
 pub use book::{carry_over, close, open, transfer, transfer_with_limits};
 pub use days::{is_before_memo, six_months_before};
 pub use limits::PUBLISHED;
+pub use marks::{return_to_mark, set_mark};
 pub use pieces::ONES;
 pub use records::answer;
 pub use serve::serve;
@@ -31,6 +33,11 @@ pub const PIECE_WORDS: usize = 16;
 /// Words of the par on loan, 256 for each of 16 securities, and of the balances: on loan, then on repo.
 pub const TRACKING_WORDS: usize = 4096;
 pub const BALANCE_WORDS: usize = 2 * TRACKING_WORDS;
+
+/// Words of a mark, which are whether it is set, the day, the count and the balances, and of a store of four.
+pub const MARKS: u32 = 4;
+pub const MARK_WORDS: usize = 3 + BALANCE_WORDS;
+pub const STORE_WORDS: usize = MARKS as usize * MARK_WORDS;
 
 /// The claim buffer of a record in a run, and the room for it and the answer.
 pub const CLAIM_ROOM: usize = 65536;

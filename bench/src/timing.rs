@@ -2,7 +2,7 @@
 use crate::inputs::{self, World};
 use crate::random::Random;
 use crate::tracker;
-use bench::rules::{self, BALANCE_WORDS, Book, CLAIM_ROOM, Done, ONES, Served, TABLE_WORDS, TRACKING_WORDS};
+use bench::rules::{self, BALANCE_WORDS, Book, CLAIM_ROOM, Done, ONES, STORE_WORDS, Served, TABLE_WORDS, TRACKING_WORDS};
 use std::fs::File;
 use std::hint::black_box;
 use std::path::{Path, PathBuf};
@@ -166,6 +166,36 @@ fn time_carry_over(world: &World) {
     line("carry over", &alternate(ROUNDS, CALLS, run(tracker::carry_over), run(rules::carry_over)));
 }
 
+/// Times setting a mark of a full book, and a return to it.
+fn time_marks(world: &World) {
+    const CALLS: usize = 1000;
+    type Set = fn(&[u32], Book, &[u64], &mut [u64], u32) -> u16;
+    type Return = fn(&[u32], Book, &mut [u64], &[u64], u32) -> Done;
+    let mut marked = vec![0; STORE_WORDS];
+    let number = rules::set_mark(&world.calendar, world.book, &world.balances, &mut marked, 3);
+    assert!(number == 0, "number {number}");
+    let set = |call: Set| {
+        let mut store = marked.clone();
+        move || {
+            for _ in 0..CALLS {
+                let number = call(&world.calendar, black_box(world.book), &world.balances, black_box(&mut store), 3);
+                assert!(number == 0, "number {number}");
+            }
+        }
+    };
+    line("set mark", &alternate(ROUNDS, CALLS, set(tracker::set_mark), set(rules::set_mark)));
+    let back = |call: Return| {
+        let (mut balances, store) = (world.balances.clone(), &marked);
+        move || {
+            for _ in 0..CALLS {
+                let done = call(&world.calendar, black_box(world.book), black_box(&mut balances), store, 3);
+                assert!(done.number == 0, "number {}", done.number);
+            }
+        }
+    };
+    line("return to mark", &alternate(ROUNDS, CALLS, back(tracker::return_to_mark), back(rules::return_to_mark)));
+}
+
 /// A stream of transfers with closes among them: fails with a Contract Date, loans, repos, and plain deliveries.
 fn stream() -> Vec<u8> {
     let mut random = Random::new(11);
@@ -302,6 +332,7 @@ pub fn run(claimrun: Option<PathBuf>) -> Result<(), String> {
     time_call("close that crosses 1 row", 20330801, tracker::close, rules::close, &close)?;
     time_call("close that crosses 3 rows", 20330805, tracker::close, rules::close, &close)?;
     time_carry_over(&full_book(20330801));
+    time_marks(&full_book(20330801));
     let (world, stream) = (opened_book(), stream());
     let written = time_serve(&world, &stream)?;
     match claimrun.filter(|path| path.exists()) {

@@ -26,6 +26,28 @@ mod exports {
             balance_words: usize,
         ) -> Done;
 
+        pub fn claim_tracker_set_mark(
+            calendar: *const u32,
+            calendar_words: usize,
+            book: Book,
+            balances: *const u64,
+            balance_words: usize,
+            store: *mut u64,
+            store_words: usize,
+            mark: u32,
+        ) -> u16;
+
+        pub fn claim_tracker_return_to_mark(
+            calendar: *const u32,
+            calendar_words: usize,
+            book: Book,
+            balances: *mut u64,
+            balance_words: usize,
+            store: *const u64,
+            store_words: usize,
+            mark: u32,
+        ) -> Done;
+
         pub fn claim_tracker_transfer(
             calendar: *const u32,
             calendar_words: usize,
@@ -117,6 +139,36 @@ pub fn carry_over(calendar: &[u32], book: Book, saved: &[u64], balances: &mut [u
             saved.len(),
             balances.as_mut_ptr(),
             balances.len(),
+        )
+    }
+}
+
+pub fn set_mark(calendar: &[u32], book: Book, balances: &[u64], store: &mut [u64], mark: u32) -> u16 {
+    unsafe {
+        exports::claim_tracker_set_mark(
+            calendar.as_ptr(),
+            calendar.len(),
+            book,
+            balances.as_ptr(),
+            balances.len(),
+            store.as_mut_ptr(),
+            store.len(),
+            mark,
+        )
+    }
+}
+
+pub fn return_to_mark(calendar: &[u32], book: Book, balances: &mut [u64], store: &[u64], mark: u32) -> Done {
+    unsafe {
+        exports::claim_tracker_return_to_mark(
+            calendar.as_ptr(),
+            calendar.len(),
+            book,
+            balances.as_mut_ptr(),
+            balances.len(),
+            store.as_ptr(),
+            store.len(),
+            mark,
         )
     }
 }

@@ -13,6 +13,7 @@ static uint32_t calendar[2 * CLAIM_TRACKER_CALENDAR_WORDS];
 static uint32_t tables[2 * CLAIM_TRACKER_TABLE_WORDS];
 static uint64_t balances[2 * CLAIM_TRACKER_BALANCE_WORDS];
 static uint64_t saved[2 * CLAIM_TRACKER_LENDING_WORDS];
+static uint64_t store[CLAIM_TRACKER_STORE_WORDS + 20];
 static uint32_t *pieces;
 static size_t calendar_words = CLAIM_TRACKER_CALENDAR_WORDS, table_words = CLAIM_TRACKER_TABLE_WORDS;
 static size_t balance_words = CLAIM_TRACKER_BALANCE_WORDS, piece_words;
@@ -141,6 +142,22 @@ static void carry_over(void) {
            book.count, checksum(saved, sizeof saved), checksum(balances, sizeof balances));
 }
 
+/* Sets a mark in as many words of the store as the line says, or returns to it. */
+static void mark(const char *name) {
+    size_t store_words = number();
+    uint32_t which = (uint32_t)number();
+    if (strcmp(name, "set_mark") == 0) {
+        printf("%s %u", name,
+               claim_tracker_set_mark(calendar, calendar_words, book, balances, balance_words, store, store_words, which));
+    } else {
+        struct claim_tracker_done done =
+            claim_tracker_return_to_mark(calendar, calendar_words, book, balances, balance_words, store, store_words, which);
+        book = done.book;
+        printf("%s %u claims %zu book %" PRIu32 " %" PRIu32, name, done.number, done.claims, book.day, book.count);
+    }
+    printf(" %08" PRIx32 " %08" PRIx32 "\n", checksum(store, sizeof store), checksum(balances, sizeof balances));
+}
+
 static void serve(void) {
     size_t count;
     bool ended = number() != 0;
@@ -231,10 +248,12 @@ static void put(const char *name) {
     if (strcmp(name, "tables") == 0) tables[place] = (uint32_t)word;
     if (strcmp(name, "balances") == 0) balances[place] = word;
     if (strcmp(name, "saved") == 0) saved[place] = word;
+    if (strcmp(name, "store") == 0) store[place] = word;
 }
 
 static void work(const char *name) {
-    if (strcmp(name, "calendar") == 0 || strcmp(name, "tables") == 0 || strcmp(name, "balances") == 0 || strcmp(name, "saved") == 0) {
+    if (strcmp(name, "calendar") == 0 || strcmp(name, "tables") == 0 || strcmp(name, "balances") == 0 || strcmp(name, "saved") == 0
+        || strcmp(name, "store") == 0) {
         put(name);
     } else if (strcmp(name, "pieces") == 0) {
         free(pieces);
@@ -254,6 +273,8 @@ static void work(const char *name) {
                checksum(balances, sizeof balances));
     } else if (strcmp(name, "carry_over") == 0) {
         carry_over();
+    } else if (strcmp(name, "set_mark") == 0 || strcmp(name, "return_to_mark") == 0) {
+        mark(name);
     } else if (strcmp(name, "serve") == 0) {
         serve();
     } else if (strncmp(name, "read_", 5) == 0) {

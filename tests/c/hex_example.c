@@ -1,7 +1,7 @@
 /* Replays document 01's hex example through the exported functions: the book opened on 20230404 with the cases' tables, the first
    case's transfer from account 1 to 2, and all bytes that come out. Then the codecs both ways, two payments that wait for their Payment
    Dates, an interim claim, a close, refusals, both calls on the caller's own book, a repo beside a loan, date limits, half a book,
-   minimum pieces, days before 20230130, and a saved book of loans that is carried over. */
+   minimum pieces, days before 20230130, a saved book of loans that is carried over, and marks that are set and returned to. */
 #include <stdio.h>
 #include <string.h>
 
@@ -439,6 +439,261 @@ static void check_carried_book(void) {
     }
 }
 
+enum { STORE = CLAIM_TRACKER_STORE_WORDS, GUARD = 8 }; /* GUARD: words before and behind what a call is lent */
+
+/* A book on 20230404 with 9 transfers, and 1,000 on loan from account 3 to account 5. Mark 2 of its store holds 20230331, 5 transfers,
+   15,000 on loan from account 1 to account 2 and 7 on repo. With a change: to the lengths, to the book, to a word of the calendar whose
+   bits are turned, to a word of the balances, to a word of mark 2 (0 the flag, 1 the day, 2 the count, 3 the first balance), and to the mark
+   asked for. The two numbers are those of setting it and of returning to it. */
+static const struct {
+    const char *name;
+    size_t calendar_words, balance_words, store_words;
+    struct claim_tracker_book book;
+    size_t month;
+    uint32_t bits;
+    size_t place;
+    uint64_t word;
+    size_t marked_place;
+    uint64_t marked_word;
+    uint32_t mark;
+    uint16_t set_number, return_number;
+} marked_books[] = {
+    {"mark 2", 480, WORDS, STORE, {20230404, 9}, 0, 0, 53, 1000, 0, 1, 2, 0, 0},
+    {"mark 1, which is unset", 480, WORDS, STORE, {20230404, 9}, 0, 0, 53, 1000, 0, 1, 1, 0, 17},
+    {"mark 3, which is unset", 480, WORDS, STORE, {20230404, 9}, 0, 0, 53, 1000, 0, 1, 3, 0, 17},
+    {"mark 4, which is unset", 480, WORDS, STORE, {20230404, 9}, 0, 0, 53, 1000, 0, 1, 4, 0, 17},
+    {"a full count", 480, WORDS, STORE, {20230404, UINT32_MAX}, 0, 0, 53, 1000, 0, 1, 2, 0, 0},
+    {"count 0", 480, WORDS, STORE, {20230404, 0}, 0, 0, 53, 1000, 0, 1, 2, 0, 0},
+    {"the first open day", 480, WORDS, STORE, {20000103, 9}, 0, 0, 53, 1000, 0, 1, 2, 0, 0},
+    {"the last but one", 480, WORDS, STORE, {20391229, 9}, 0, 0, 53, 1000, 0, 1, 2, 0, 0},
+    {"a Saturday that is open", 480, WORDS, STORE, {20230401, 9}, 279, 1, 53, 1000, 1, 20230401, 2, 0, 0},
+    {"nothing on loan", 480, WORDS, STORE, {20230404, 9}, 0, 0, 53, 0, 0, 1, 2, 0, 0},
+    {"9,000,000,000 on loan in front", 480, WORDS, STORE, {20230404, 9}, 0, 0, 1, 9000000000, 0, 1, 2, 0, 0},
+    {"9,000,000,000 on repo at the end", 480, WORDS, STORE, {20230404, 9}, 0, 0, WORDS - 2, 9000000000, 0, 1, 2, 0, 0},
+    {"9,000,000,000 in front of the mark", 480, WORDS, STORE, {20230404, 9}, 0, 0, 53, 1000, 4, 9000000000, 2, 0, 0},
+    {"9,000,000,000 at the mark's end", 480, WORDS, STORE, {20230404, 9}, 0, 0, 53, 1000, WORDS + 1, 9000000000, 2, 0, 0},
+    {"the mark's count full", 480, WORDS, STORE, {20230404, 9}, 0, 0, 53, 1000, 2, UINT32_MAX, 2, 0, 0},
+    {"the mark's count 0", 480, WORDS, STORE, {20230404, 9}, 0, 0, 53, 1000, 2, 0, 2, 0, 0},
+    {"the mark's day the first", 480, WORDS, STORE, {20230404, 9}, 0, 0, 53, 1000, 1, 20000103, 2, 0, 0},
+    {"the mark's day the last but one", 480, WORDS, STORE, {20230404, 9}, 0, 0, 53, 1000, 1, 20391229, 2, 0, 0},
+    {"the mark's day after the book's", 480, WORDS, STORE, {20230404, 9}, 0, 0, 53, 1000, 1, 20230405, 2, 0, 0},
+
+    {"no calendar", 0, WORDS, STORE, {20230404, 9}, 0, 0, 53, 1000, 0, 1, 2, 1, 1},
+    {"479 words of the calendar", 479, WORDS, STORE, {20230404, 9}, 0, 0, 53, 1000, 0, 1, 2, 1, 1},
+    {"481 words of the calendar", 481, WORDS, STORE, {20230404, 9}, 0, 0, 53, 1000, 0, 1, 2, 1, 1},
+    {"no balances", 480, 0, STORE, {20230404, 9}, 0, 0, 53, 1000, 0, 1, 2, 1, 1},
+    {"4,096 balances", 480, REPO, STORE, {20230404, 9}, 0, 0, 53, 1000, 0, 1, 2, 1, 1},
+    {"8,191 balances", 480, WORDS - 1, STORE, {20230404, 9}, 0, 0, 53, 1000, 0, 1, 2, 1, 1},
+    {"8,193 balances", 480, WORDS + 1, STORE, {20230404, 9}, 0, 0, 53, 1000, 0, 1, 2, 1, 1},
+    {"a bit for 31 April", 480, WORDS, STORE, {20230404, 9}, 279, UINT32_C(1) << 30, 53, 1000, 0, 1, 2, 2, 2},
+    {"bit 31 of the last month", 480, WORDS, STORE, {20230404, 9}, 479, UINT32_C(1) << 31, 53, 1000, 0, 1, 2, 2, 2},
+    {"a closed day", 480, WORDS, STORE, {20230401, 9}, 0, 0, 53, 1000, 0, 1, 2, 4, 4},
+    {"the last open day", 480, WORDS, STORE, {20391230, 9}, 0, 0, 53, 1000, 0, 1, 2, 4, 4},
+    {"no date", 480, WORDS, STORE, {20230431, 9}, 0, 0, 53, 1000, 0, 1, 2, 4, 4},
+    {"day 0", 480, WORDS, STORE, {0, 9}, 0, 0, 53, 1000, 0, 1, 2, 4, 4},
+    {"an account's loan to itself", 480, WORDS, STORE, {20230404, 9}, 0, 0, 17, 1, 0, 1, 2, 4, 4},
+    {"one in the first word", 480, WORDS, STORE, {20230404, 9}, 0, 0, 0, 1, 0, 1, 2, 4, 4},
+    {"one in the last word", 480, WORDS, STORE, {20230404, 9}, 0, 0, WORDS - 1, 1, 0, 1, 2, 4, 4},
+    {"9,000,000,001 on loan", 480, WORDS, STORE, {20230404, 9}, 0, 0, 53, 9000000001, 0, 1, 2, 4, 4},
+    {"9,000,000,001 on repo", 480, WORDS, STORE, {20230404, 9}, 0, 0, WORDS - 2, 9000000001, 0, 1, 2, 4, 4},
+
+    {"mark 0", 480, WORDS, STORE, {20230404, 9}, 0, 0, 53, 1000, 0, 1, 0, 16, 16},
+    {"mark 5", 480, WORDS, STORE, {20230404, 9}, 0, 0, 53, 1000, 0, 1, 5, 16, 16},
+    {"mark 256 + 2", 480, WORDS, STORE, {20230404, 9}, 0, 0, 53, 1000, 0, 1, 258, 16, 16},
+    {"mark 65,536 + 2", 480, WORDS, STORE, {20230404, 9}, 0, 0, 53, 1000, 0, 1, 65538, 16, 16},
+    {"the largest mark", 480, WORDS, STORE, {20230404, 9}, 0, 0, 53, 1000, 0, 1, UINT32_MAX, 16, 16},
+    {"no store", 480, WORDS, 0, {20230404, 9}, 0, 0, 53, 1000, 0, 1, 2, 16, 16},
+    {"a store of two marks", 480, WORDS, 16390, {20230404, 9}, 0, 0, 53, 1000, 0, 1, 2, 16, 16},
+    {"a store of 32,779 words", 480, WORDS, STORE - 1, {20230404, 9}, 0, 0, 53, 1000, 0, 1, 2, 16, 16},
+    {"a store of 32,781 words", 480, WORDS, STORE + 1, {20230404, 9}, 0, 0, 53, 1000, 0, 1, 2, 16, 16},
+
+    {"flag 0", 480, WORDS, STORE, {20230404, 9}, 0, 0, 53, 1000, 0, 0, 2, 0, 17},
+    {"flag 2", 480, WORDS, STORE, {20230404, 9}, 0, 0, 53, 1000, 0, 2, 2, 0, 17},
+    {"flag 257", 480, WORDS, STORE, {20230404, 9}, 0, 0, 53, 1000, 0, 257, 2, 0, 17},
+    {"flag 2 to the 32nd + 1", 480, WORDS, STORE, {20230404, 9}, 0, 0, 53, 1000, 0, UINT64_C(0x100000001), 2, 0, 17},
+    {"the largest flag", 480, WORDS, STORE, {20230404, 9}, 0, 0, 53, 1000, 0, UINT64_MAX, 2, 0, 17},
+    {"the mark's day a Saturday", 480, WORDS, STORE, {20230404, 9}, 0, 0, 53, 1000, 1, 20230401, 2, 0, 17},
+    {"the mark's day the last open one", 480, WORDS, STORE, {20230404, 9}, 0, 0, 53, 1000, 1, 20391230, 2, 0, 17},
+    {"the mark's day no date", 480, WORDS, STORE, {20230404, 9}, 0, 0, 53, 1000, 1, 20230431, 2, 0, 17},
+    {"the mark's day 0", 480, WORDS, STORE, {20230404, 9}, 0, 0, 53, 1000, 1, 0, 2, 0, 17},
+    {"the mark's day past 32 bits", 480, WORDS, STORE, {20230404, 9}, 0, 0, 53, 1000, 1, UINT64_C(4315197627), 2, 0, 17},
+    {"the mark's count 2 to the 32nd", 480, WORDS, STORE, {20230404, 9}, 0, 0, 53, 1000, 2, UINT64_C(4294967296), 2, 0, 17},
+    {"the mark's count 2 to the 32nd + 5", 480, WORDS, STORE, {20230404, 9}, 0, 0, 53, 1000, 2, UINT64_C(4294967301), 2, 0, 17},
+    {"the mark's count the largest word", 480, WORDS, STORE, {20230404, 9}, 0, 0, 53, 1000, 2, UINT64_MAX, 2, 0, 17},
+    {"an account's loan to itself in the mark", 480, WORDS, STORE, {20230404, 9}, 0, 0, 53, 1000, 3 + 17, 1, 2, 0, 17},
+    {"one in the mark's first balance", 480, WORDS, STORE, {20230404, 9}, 0, 0, 53, 1000, 3, 1, 2, 0, 17},
+    {"one in the mark's last balance", 480, WORDS, STORE, {20230404, 9}, 0, 0, 53, 1000, WORDS + 2, 1, 2, 0, 17},
+    {"9,000,000,001 in the mark", 480, WORDS, STORE, {20230404, 9}, 0, 0, 53, 1000, 3 + 18, 9000000001, 2, 0, 17},
+    {"9,000,000,001 at the mark's end", 480, WORDS, STORE, {20230404, 9}, 0, 0, 53, 1000, WORDS + 1, 9000000001, 2, 0, 17},
+    {"the largest word in the mark", 480, WORDS, STORE, {20230404, 9}, 0, 0, 53, 1000, 4, UINT64_MAX, 2, 0, 17},
+
+    {"479 words of a bad calendar", 479, WORDS, STORE, {20230404, 9}, 0, UINT32_C(1) << 31, 53, 1000, 0, 1, 2, 1, 1},
+    {"8,191 balances and a bad calendar", 480, WORDS - 1, STORE, {20230404, 9}, 0, UINT32_C(1) << 31, 53, 1000, 0, 1, 2, 1, 1},
+    {"8,191 balances and a closed day", 480, WORDS - 1, STORE, {20230401, 9}, 0, 0, 53, 1000, 0, 1, 2, 1, 1},
+    {"479 words of the calendar and mark 5", 479, WORDS, STORE, {20230404, 9}, 0, 0, 53, 1000, 0, 1, 5, 1, 1},
+    {"8,193 balances and 32,779 words of store", 480, WORDS + 1, STORE - 1, {20230404, 9}, 0, 0, 53, 1000, 0, 1, 2, 1, 1},
+    {"8,191 balances and flag 2", 480, WORDS - 1, STORE, {20230404, 9}, 0, 0, 53, 1000, 0, 2, 2, 1, 1},
+    {"a bad calendar and a closed day", 480, WORDS, STORE, {20230401, 9}, 0, UINT32_C(1) << 31, 53, 1000, 0, 1, 2, 2, 2},
+    {"a bad calendar and a bad word", 480, WORDS, STORE, {20230404, 9}, 0, UINT32_C(1) << 31, 17, 1, 0, 1, 2, 2, 2},
+    {"a bad calendar and mark 0", 480, WORDS, STORE, {20230404, 9}, 0, UINT32_C(1) << 31, 53, 1000, 0, 1, 0, 2, 2},
+    {"a bad calendar and 32,781 words of store", 480, WORDS, STORE + 1, {20230404, 9}, 0, UINT32_C(1) << 31, 53, 1000, 0, 1, 2, 2, 2},
+    {"a bad calendar and flag 2", 480, WORDS, STORE, {20230404, 9}, 0, UINT32_C(1) << 31, 53, 1000, 0, 2, 2, 2, 2},
+    {"a closed day and mark 9", 480, WORDS, STORE, {20230401, 9}, 0, 0, 53, 1000, 0, 1, 9, 4, 4},
+    {"a closed day and 32,779 words of store", 480, WORDS, STORE - 1, {20230401, 9}, 0, 0, 53, 1000, 0, 1, 2, 4, 4},
+    {"a bad word and mark 0", 480, WORDS, STORE, {20230404, 9}, 0, 0, 17, 1, 0, 1, 0, 4, 4},
+    {"a bad word and no store", 480, WORDS, 0, {20230404, 9}, 0, 0, 17, 1, 0, 1, 2, 4, 4},
+    {"a closed day and flag 2", 480, WORDS, STORE, {20230401, 9}, 0, 0, 53, 1000, 0, 2, 2, 4, 4},
+    {"a bad word and one in the mark", 480, WORDS, STORE, {20230404, 9}, 0, 0, 17, 1, 3 + 17, 1, 2, 4, 4},
+    {"32,779 words of store and flag 2", 480, WORDS, STORE - 1, {20230404, 9}, 0, 0, 53, 1000, 0, 2, 2, 16, 16},
+    {"32,781 words of store and a mark's Saturday", 480, WORDS, STORE + 1, {20230404, 9}, 0, 0, 53, 1000, 1, 20230401, 2, 16, 16},
+};
+
+/* The words of a mark, as a set one is to hold them. */
+static void write_mark(uint64_t *store, uint32_t mark, struct claim_tracker_book book, const uint64_t *words) {
+    uint64_t *at = store + (size_t)8195 * (mark - 1);
+    at[0] = 1;
+    at[1] = book.day;
+    at[2] = book.count;
+    memcpy(at + 3, words, sizeof *words * WORDS);
+}
+
+/* Sets the mark of each marked book and returns to it. The store has this word wherever it is not said otherwise, and guards are around it
+   and the balances. What is refused leaves every word; a setting leaves the balances and all words of the store but the mark's, and a
+   return leaves the store. */
+static void check_marked_books(uint64_t held) {
+    static uint32_t months[CLAIM_TRACKER_CALENDAR_WORDS + 1];
+    static uint64_t marked[WORDS], lent[GUARD + WORDS + GUARD], left[GUARD + WORDS + GUARD];
+    static uint64_t store[GUARD + STORE + GUARD], wanted[GUARD + STORE + GUARD];
+    for (size_t i = 0; i < sizeof marked_books / sizeof *marked_books; i++) {
+        const char *name = marked_books[i].name;
+        struct claim_tracker_book book = marked_books[i].book;
+        uint32_t mark = marked_books[i].mark;
+        memcpy(months, calendar, sizeof calendar);
+        months[marked_books[i].month] ^= marked_books[i].bits;
+        for (size_t at = 0; at < sizeof lent / sizeof *lent; at++) lent[at] = 0xdddd;
+        memset(lent + GUARD, 0, sizeof *lent * WORDS);
+        lent[GUARD + 53] = 1000;
+        lent[GUARD + marked_books[i].place] = marked_books[i].word;
+        memcpy(left, lent, sizeof left);
+        for (size_t at = 0; at < sizeof store / sizeof *store; at++) store[at] = held;
+        memset(marked, 0, sizeof marked);
+        marked[18] = 15000;
+        marked[REPO + 18] = 7;
+        write_mark(store + GUARD, 2, (struct claim_tracker_book){20230331, 5}, marked);
+        store[GUARD + 8195 + marked_books[i].marked_place] = marked_books[i].marked_word;
+        memcpy(wanted, store, sizeof wanted);
+
+        struct claim_tracker_done done =
+            claim_tracker_return_to_mark(months, marked_books[i].calendar_words, book, lent + GUARD, marked_books[i].balance_words,
+                                         store + GUARD, marked_books[i].store_words, mark);
+        check(name, done.number == marked_books[i].return_number && done.claims == 0);
+        if (marked_books[i].return_number == 0) {
+            memcpy(left + GUARD, store + GUARD + 8195 + 3, sizeof *left * WORDS);
+            check(name, done.book.day == store[GUARD + 8195 + 1] && done.book.count == store[GUARD + 8195 + 2]);
+        } else {
+            check(name, done.book.day == book.day && done.book.count == book.count);
+        }
+        check(name, memcmp(lent, left, sizeof lent) == 0);
+        check(name, memcmp(store, wanted, sizeof store) == 0);
+
+        memset(lent + GUARD, 0, sizeof *lent * WORDS);
+        lent[GUARD + 53] = 1000;
+        lent[GUARD + marked_books[i].place] = marked_books[i].word;
+        memcpy(left, lent, sizeof left);
+        uint16_t number = claim_tracker_set_mark(months, marked_books[i].calendar_words, book, lent + GUARD, marked_books[i].balance_words,
+                                                 store + GUARD, marked_books[i].store_words, mark);
+        check(name, number == marked_books[i].set_number);
+        if (marked_books[i].set_number == 0) write_mark(wanted + GUARD, mark, book, lent + GUARD);
+        check(name, memcmp(store, wanted, sizeof store) == 0);
+        check(name, memcmp(lent, left, sizeof lent) == 0);
+    }
+}
+
+/* Each mark of a store in turn, the first and the last at its ends: set on a book of its own, overwritten, and returned to, also twice. */
+static void check_each_mark(void) {
+    static uint64_t store[GUARD + STORE + GUARD], wanted[GUARD + STORE + GUARD], lent[WORDS], words[4][WORDS];
+    static const struct claim_tracker_book books[4] = {{20230331, 5}, {20230403, 0}, {20230127, UINT32_MAX}, {20391229, 1}};
+    static const struct claim_tracker_book present = {20230404, 9};
+    static const uint32_t order[] = {4, 1, 3, 1, 2, 2, 4};
+    for (size_t at = 0; at < sizeof store / sizeof *store; at++) store[at] = wanted[at] = 0x1111 * (at + 1);
+    for (uint32_t mark = 1; mark <= 4; mark++) {
+        for (size_t at = 0; at < WORDS; at++) words[mark - 1][at] = at / 16 % 16 == at % 16 ? 0 : 9000000000 - 4 * at - mark;
+        check("another mark", claim_tracker_set_mark(calendar, 480, present, lent, WORDS, store + GUARD, STORE, mark) == 0);
+        check("overwritten", claim_tracker_set_mark(calendar, 480, books[mark - 1], words[mark - 1], WORDS, store + GUARD, STORE, mark) == 0);
+        write_mark(wanted + GUARD, mark, books[mark - 1], words[mark - 1]);
+        check("the marks set so far", memcmp(store, wanted, sizeof store) == 0);
+    }
+    for (size_t i = 0; i < sizeof order / sizeof *order; i++) {
+        const struct claim_tracker_book *book = books + order[i] - 1;
+        memset(lent, 0, sizeof lent);
+        struct claim_tracker_done done = claim_tracker_return_to_mark(calendar, 480, present, lent, WORDS, store + GUARD, STORE, order[i]);
+        check("a return to one of four", done.number == 0 && done.claims == 0 && done.book.day == book->day
+                                             && done.book.count == book->count);
+        check("and its balances", memcmp(lent, words[order[i] - 1], sizeof lent) == 0);
+        check("the marks stay", memcmp(store, wanted, sizeof store) == 0);
+    }
+}
+
+/* April's claim on 15,000 on loan, 7,500 cents, released on 20230417. */
+static const uint8_t april[35] = {0x21, 0x00, 0x03, 0x00, 0x03, 0x00, 0x02, 0x01, 0x00, 0x00, 0x00, 0x00, 0x00, 0x00, 0x4C, 0x1D, 0x00, 0x00,
+                                  0x00, 0x00, 0x00, 0x00, 0x00, 0x00, 0x00, 0x00, 0x00, 0x00, 0x00, 0x00, 0x11, 0xB1, 0x34, 0x01, 0x03};
+
+/* The close of 20230331 with this loan: it writes April's claim and nothing behind it. */
+static struct claim_tracker_book close_of_march(struct claim_tracker_book book, uint32_t count) {
+    static const uint8_t close[CLAIM_TRACKER_CLOSE_BYTES] = {2, 0, 2, 0};
+    uint8_t claims[CLAIM_TRACKER_CLAIM_ROOM(2)];
+    memset(claims, 0xaa, sizeof claims);
+    struct claim_tracker_done done =
+        claim_tracker_close(calendar, 480, tables, 1824, book, balances, WORDS, close, sizeof close, claims, sizeof claims);
+    check("the close of the marked day", done.number == 0 && done.book.day == 20230403 && done.book.count == count && done.claims == 1);
+    check("April's claim in bytes", memcmp(claims, april, sizeof april) == 0 && claims[35] == 0xaa);
+    return done.book;
+}
+
+/* A trial in each form of the transfer: a loan, mark 3, the close, the loan's return and a fail, then back to 3 and on another way. */
+static void check_trial(void) {
+    static const struct claim_tracker_transfer_fields start = {1, 2, 0, 0, CLAIM_TRACKER_CODE_SLST, 15000},
+                                                      back = {2, 1, 0, 0, CLAIM_TRACKER_CODE_CLSL, 15000},
+                                                      repo = {1, 2, 0, 0, CLAIM_TRACKER_CODE_RPST, 30000},
+                                                      fail = {1, 2, 0, 0, CLAIM_TRACKER_CODE_NONE, 200000};
+    static uint64_t store[STORE], kept[STORE], at_mark[WORDS];
+    uint8_t message[CLAIM_TRACKER_TRANSFER_BYTES], claims[CLAIM_TRACKER_CLAIM_ROOM(1)];
+    memset(at_mark, 0, sizeof at_mark);
+    at_mark[18] = 15000;
+    for (int form = 0; form < 3; form++) {
+        memset(store, 0, sizeof store);
+        struct claim_tracker_book book = claim_tracker_open(calendar, 480, tables, 1824, balances, WORDS, 20230331).book;
+        write_tagged(message, start, "");
+        book = by_form(form, book, ones, 16, message, claims, 0).book;
+        check("mark 3 after the loan", claim_tracker_set_mark(calendar, 480, book, balances, WORDS, store, STORE, 3) == 0);
+        memcpy(kept, store, sizeof kept);
+        for (int trial = 0; trial < 2; trial++) {
+            book = close_of_march(book, 1);
+            write_tagged(message, back, "");
+            struct claim_tracker_done done = by_form(form, book, ones, 16, message, claims, 0);
+            check("the loan's return", done.number == 0 && done.book.count == 2 && balances[18] == 0);
+            write_tagged(message, repo, "");
+            done = by_form(form, done.book, ones, 16, message, claims, 0);
+            check("a repo behind it", done.number == 0 && done.book.count == 3 && balances[REPO + 18] == 30000);
+            write_tagged(message, fail, "{98A:CNTR/20230315}");
+            done = by_form(form, done.book, ones, 16, message, claims, sizeof claims);
+            check("a fail behind it", done.number == 0 && done.claims == 1 && done.book.count == 4
+                                          && claim_tracker_read_claim(claims, sizeof claims).claim.transfer == 4);
+            done = claim_tracker_return_to_mark(calendar, 480, done.book, balances, WORDS, store, STORE, 3);
+            book = done.book;
+            check("back at mark 3", done.number == 0 && done.claims == 0 && book.day == 20230331 && book.count == 1);
+            check("the balances of the mark", memcmp(balances, at_mark, sizeof balances) == 0);
+            check("the store after the return", memcmp(store, kept, sizeof store) == 0);
+            check("a mark that was not set",
+                  claim_tracker_return_to_mark(calendar, 480, book, balances, WORDS, store, STORE, 4).number == CLAIM_TRACKER_BAD_MARK);
+        }
+        write_tagged(message, fail, "{98A:CNTR/20230315}");
+        struct claim_tracker_done done = by_form(form, book, ones, 16, message, claims, sizeof claims);
+        check("a fail on the marked day owes nothing", done.number == 0 && done.claims == 0 && done.book.count == 2);
+        close_of_march(done.book, 2);
+    }
+}
+
 static const uint8_t expected[41] = {0x21, 0x00, 0x03, 0x00, 0x01, 0x00, 0x01, 0x02, 0x00, 0x00, 0x01, 0x00, 0x00, 0x00,
                                      0xA0, 0x86, 0x01, 0x00, 0x00, 0x00, 0x00, 0x00, 0x00, 0x00, 0x00, 0x00, 0x00, 0x00,
                                      0x00, 0x00, 0x11, 0xB1, 0x34, 0x01, 0x03, 0x04, 0x00, 0x04, 0x00, 0x00, 0x00};
@@ -684,6 +939,12 @@ int main(void) {
     check_saved_books(UINT64_MAX);
     check_saved_books(0);
     check_carried_book();
+
+    check_marked_books(0);
+    check_marked_books(1);
+    check_marked_books(UINT64_MAX);
+    check_each_mark();
+    check_trial();
 
     half_year_tables();
     check_days();

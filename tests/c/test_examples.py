@@ -17,6 +17,15 @@ return of 5,000: 0 accepted, day 20230331, transfer 4
 close: 0 accepted, day 20230403, transfer 4
 account 2 pays account 1 5000 cents of interest on 20230417
 """
+MARK_AND_RETURN = """loan of 15,000: 0 accepted, day 20230331, transfer 1
+set mark 1: 0 accepted
+close: 0 accepted, day 20230403, transfer 1
+account 2 pays account 1 7500 cents of interest on 20230417
+return to mark 1: 0 accepted, day 20230331, transfer 1
+return of 5,000: 0 accepted, day 20230331, transfer 2
+close: 0 accepted, day 20230403, transfer 2
+account 2 pays account 1 5000 cents of interest on 20230417
+"""
 STORED = ("closed-opening-day", "full-output", "fill-points-at", "many-reads")
 ROOM = common.RECORD_ROOM
 
@@ -36,6 +45,9 @@ class Examples(building.Library):
 
     def test_carry_over(self):
         self.prints("examples/carry_over.c", CARRY_OVER)
+
+    def test_mark_and_return(self):
+        self.prints("examples/mark_and_return.c", MARK_AND_RETURN)
 
     def test_readme_shows_the_first_claim(self):
         shown = "".join("    " + line for line in FIRST_CLAIM.splitlines(keepends=True))

@@ -24,7 +24,8 @@ class Caller:
         self.words = {"calendar": array("I", bytes(4 * 2 * claim_tracker.CALENDAR_WORDS)),
                       "tables": array("I", bytes(4 * 2 * claim_tracker.TABLE_WORDS)),
                       "balances": array("Q", bytes(8 * 2 * claim_tracker.BALANCE_WORDS)),
-                      "saved": array("Q", bytes(8 * 2 * claim_tracker.LENDING_WORDS))}
+                      "saved": array("Q", bytes(8 * 2 * claim_tracker.LENDING_WORDS)),
+                      "store": array("Q", bytes(8 * (claim_tracker.STORE_WORDS + 20)))}
         self.lengths = [claim_tracker.CALENDAR_WORDS, claim_tracker.TABLE_WORDS, claim_tracker.BALANCE_WORDS]
         self.book = claim_tracker.Book(0)
         self.pieces = {}
@@ -59,6 +60,8 @@ class Caller:
             return "open %d claims %d book %d %d %s" % (done.number, done.claims, self.book.day, self.book.count, self.sum())
         elif name == "carry_over":
             return self.carry_over(int(words[0]))
+        elif name in ("set_mark", "return_to_mark"):
+            return self.mark(name, *map(int, words))
         elif name.startswith("read_"):
             return self.read(name, bytes_of(words[0]))
         elif name.startswith("write_"):
@@ -75,6 +78,16 @@ class Caller:
         self.book = done.book
         return "carry_over %d claims %d book %d %d %s %s" % (
             done.number, done.claims, self.book.day, self.book.count, self.sum("saved"), self.sum())
+
+    def mark(self, name, count, mark):
+        calendar, _, balances = self.lent()
+        answer = getattr(claim_tracker, name)(calendar, self.book, balances, memoryview(self.words["store"])[:count], mark)
+        if name == "set_mark":
+            made = "%d" % answer
+        else:
+            self.book = answer.book
+            made = "%d claims %d book %d %d" % (answer.number, answer.claims, self.book.day, self.book.count)
+        return "%s %s %s %s" % (name, made, self.sum("store"), self.sum())
 
     def call(self, name, *words):
         *limits, room, message = words

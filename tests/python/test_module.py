@@ -184,6 +184,32 @@ def carry_over_calls(count, seed):
     return lines
 
 
+def mark_calls(count, seed):
+    """A list of marks that are set and returned to, most of them right but for one thing, with a loan or a repo and a close between."""
+    choice = random.Random(seed)
+
+    def mostly(usual, *others):
+        return choice.choice(others) if choice.random() < 0.1 else usual
+
+    lines = [*book_lines(), "open 20230331"]
+    for _ in range(count):
+        place, month, word = choice.randrange(8192), choice.randrange(480), choice.randrange(claim_tracker.STORE_WORDS)
+        par = 0 if place // 16 % 16 == place % 16 else choice.randrange(9000000001)
+        call = "%s %d %d" % (choice.choice(("set_mark", "return_to_mark")), mostly(32780, 0, 32779, 32781),
+                             mostly(choice.randrange(1, 5), 0, 5, 257, 4294967295))
+        lines += ["transfer 0 " + transfer_hex(1, 2, 0, 0, choice.choice((1, 7)), choice.randrange(1, 90000)),
+                  mostly("close_in 9000 02000200", "book 20230331 4294967295", "book 20230401 5", "book 0 0"),
+                  "balances %d %d" % (place, mostly(par, 1, 9000000000, 9000000001)),
+                  mostly("store 32780 7", "store %d %d" % (word, choice.choice((0, 1, 9000000001))),
+                         "store %d %d" % (8195 * choice.randrange(4) + choice.randrange(4), choice.choice((0, 1, 2, 20230403, 2 ** 32)))),
+                  "calendar %d %d" % (month, CALENDAR[month] ^ mostly(0, 1 << 31, 1 << 28, 1)),
+                  "lengths %d 1824 %d" % (mostly(480, 0, 479, 481), mostly(8192, 0, 4096, 8191, 8193)),
+                  call, "lengths 480 1824 8192", "calendar %d %d" % (month, CALENDAR[month]), "balances %d 0" % place]
+        if choice.random() < 0.3:
+            lines.append("open 20230331")
+    return lines
+
+
 class AgainstC(building.Library):
     """The same list of calls through the C caller and through the module."""
     maxDiff = 2000
@@ -218,6 +244,12 @@ class AgainstC(building.Library):
         found = self.same(carry_over_calls(300, 13))
         self.assertEqual({int(line.split()[1]) for line in found if line.startswith("carry_over")}, {0, 1, 2, 4})
         self.assertTrue(any(line.startswith("close_in 0 ") and "2100030003" in line for line in found))
+
+    def test_marks(self):
+        """Each number of both calls occurs."""
+        found = self.same(mark_calls(500, 15))
+        for name, numbers in (("set_mark", {0, 1, 2, 4, 16}), ("return_to_mark", {0, 1, 2, 4, 16, 17})):
+            self.assertEqual({int(line.split()[1]) for line in found if line.startswith(name)}, numbers)
 
     def has_everything(self, found, *others):
         """What a random list is to show: these numbers and the usual ones, claims, and runs that are over or full."""
@@ -846,6 +878,246 @@ class CarryOver(unittest.TestCase):
                          (0, Book(20230130, 4), 0))
 
 
+class Marks(unittest.TestCase):
+    """A book on 20230404 with 9 transfers and 1,000 on loan, and a store whose mark 2 holds 20230331, 5 transfers, 15,000 on loan and 7 on
+    repo."""
+    BOOK, CLOSED = Book(20230404, 9), Book(20230401, 9)
+    WORDS, STORE, MARK = claim_tracker.BALANCE_WORDS, claim_tracker.STORE_WORDS, claim_tracker.MARK_WORDS
+    TWO = MARK                                  # the place of mark 2: its flag, day and count, and from 3 on its balances
+
+    def setUp(self):
+        self.calendar, self.balances, self.store = CALENDAR[:], claim_tracker.new_balances(), array("Q", [7]) * self.STORE
+        self.balances[53] = 1000
+        self.store[self.TWO:2 * self.MARK] = array("Q", [1, 20230331, 5]) + claim_tracker.new_balances()
+        self.store[self.TWO + 3 + 18], self.store[self.TWO + 3 + 4096 + 18] = 15000, 7
+
+    def set_number(self, mark=2, book=BOOK):
+        """The number of setting a mark. Accepted, its words are 1, day, count and the balances, and all others stay; refused, all stay. Book
+        and balances stay."""
+        store, wanted, balances, given = self.store[:], self.store[:], self.balances.tobytes(), Book(book.day, book.count)
+        number = claim_tracker.set_mark(self.calendar, given, self.balances, store, mark)
+        if number == 0:
+            wanted[self.MARK * (mark - 1):self.MARK * mark] = array("Q", [1, book.day, book.count]) + self.balances
+        self.assertTrue(store.tobytes() == wanted.tobytes(), "number %d, a wrong store" % number)
+        self.assertTrue(self.balances.tobytes() == balances, "the balances changed")
+        self.assertEqual((given, type(number)), (book, Number))
+        return number
+
+    def return_number(self, mark=2, book=BOOK):
+        """The number of a return. Accepted, book and balances are the mark's; refused, they are those given. The store stays."""
+        balances, before, store, given = self.balances[:], self.balances.tobytes(), self.store.tobytes(), Book(book.day, book.count)
+        done = claim_tracker.return_to_mark(self.calendar, given, balances, self.store, mark)
+        if done.number == 0:
+            _, day, count, *_ = at = self.store[self.MARK * (mark - 1):self.MARK * mark]
+            book, before = Book(day, count), at[3:].tobytes()
+        self.assertEqual((done.book, done.claims), (book, 0))
+        self.assertTrue(balances.tobytes() == before, "number %d, wrong balances" % done.number)
+        self.assertTrue(self.store.tobytes() == store, "the store changed")
+        return done.number
+
+    def numbers(self, mark=2, book=BOOK):
+        return self.set_number(mark, book), self.return_number(mark, book)
+
+    def spoilt(self, place, word):
+        """The number of a return to mark 2 with a changed word; a setting overwrites it."""
+        before = self.store[self.TWO + place]
+        self.store[self.TWO + place] = word
+        number = self.return_number()
+        self.assertEqual(self.set_number(), 0)
+        self.store[self.TWO + place] = before
+        return number
+
+    def test_set(self):
+        """The mark's words, with their places written out."""
+        store, balances = claim_tracker.new_store(), claim_tracker.new_balances()
+        balances[18], balances[4114] = 15000, 7
+        self.assertEqual(claim_tracker.set_mark(self.calendar, Book(20230331, 5), balances, store, 2), 0)
+        found = {place: word for place, word in enumerate(store) if word}
+        self.assertEqual(found, {8195: 1, 8196: 20230331, 8197: 5, 8198 + 18: 15000, 8198 + 4114: 7})
+        done = claim_tracker.return_to_mark(self.calendar, self.BOOK, self.balances, store, 2)
+        self.assertEqual((done, self.balances), ((0, Book(20230331, 5), 0), balances))
+
+    def test_each_mark(self):
+        """Each is set on a book of its own and overwritten; all are returned to, the first again at the end."""
+        books = [Book(20230331, 5), Book(20230403, 0), Book(20230127, 2 ** 32 - 1), Book(20391229, 1)]
+        words = [array("Q", [0 if place // 16 % 16 == place % 16 else 9000000000 - 4 * place - mark for place in range(self.WORDS)])
+                 for mark in range(4)]
+        wanted = array("Q")
+        for mark, (book, balances) in enumerate(zip(books, words), 1):
+            self.assertEqual(claim_tracker.set_mark(self.calendar, self.BOOK, self.balances, self.store, mark), 0)
+            self.assertEqual(claim_tracker.set_mark(self.calendar, book, balances, self.store, mark), 0)
+            wanted += array("Q", [1, book.day, book.count]) + balances
+        self.assertTrue(self.store == wanted)
+        for mark in (1, 2, 3, 4, 1):
+            done = claim_tracker.return_to_mark(self.calendar, self.BOOK, self.balances, self.store, mark)
+            self.assertEqual(done, (0, books[mark - 1], 0))
+            self.assertTrue((self.balances, self.store) == (words[mark - 1], wanted))
+
+    def test_unset(self):
+        """Any number but 1 in the first word."""
+        self.assertEqual([self.numbers(mark) for mark in (1, 2, 3, 4)], [(0, 17), (0, 0), (0, 17), (0, 17)])
+        for flag in (0, 2, 3, 255, 256, 257, 2 ** 32, 2 ** 32 + 1, 2 ** 63, 2 ** 63 + 1, 2 ** 64 - 1):
+            self.assertEqual(self.spoilt(0, flag), Number.BAD_MARK, flag)
+        self.store = claim_tracker.new_store()
+        self.assertEqual([self.return_number(mark) for mark in (1, 2, 3, 4)], [17] * 4)
+
+    def test_counts(self):
+        for count in (0, 1, 9, 2 ** 31, 2 ** 32 - 1):
+            self.assertEqual(self.spoilt(2, count), 0, count)
+            self.assertEqual(self.numbers(book=Book(20230404, count)), (0, 0))
+        for count in (2 ** 32, 2 ** 32 + 5, 2 ** 33, 2 ** 63 + 5, 2 ** 64 - 1):
+            self.assertEqual(self.spoilt(2, count), Number.BAD_MARK, count)
+
+    def test_every_day(self):
+        """Every day from 2000 to 2039 that is open, but the last, is the book's or the mark's; no other number is."""
+        first, last = datetime.date(2000, 1, 1), datetime.date(2039, 12, 31)
+        days = [first + datetime.timedelta(days) for days in range((last - first).days + 1)]
+        numbers = {10000 * day.year + 100 * day.month + day.day: day.weekday() < 5 for day in days}
+        numbers[20391230] = False
+        numbers |= dict.fromkeys((0, 1, 19991231, 20000100, 20230229, 20230431, 20231301, 20400102, 2 ** 32 - 1), False)
+        for day, good in numbers.items():
+            self.assertEqual(self.numbers(book=Book(day, 3)), (0, 0) if good else (Number.BAD_BOOK,) * 2, day)
+        for day, good in numbers.items():
+            self.store[self.TWO + 1] = day
+            self.assertEqual(self.return_number(), 0 if good else Number.BAD_MARK, day)
+        for past in (2 ** 32, 2 ** 33, 2 ** 40, 2 ** 63):
+            self.assertEqual(self.spoilt(1, past + 20230331), Number.BAD_MARK, past)
+
+    def test_every_word(self):
+        """A balance is at most 9,000,000,000, and 0 where an account would lend itself: with 4 that of the book, with 17 that of the mark."""
+        for place in range(self.WORDS):
+            before, own = self.store[self.TWO + 3 + place], place // 16 % 16 == place % 16
+            for word, bad in ((1, own), (9000000000, own), (9000000001, True)):
+                self.store[self.TWO + 3 + place] = word
+                self.assertEqual(self.return_number(), Number.BAD_MARK if bad else 0, (place, word))
+            self.store[self.TWO + 3 + place] = before
+            before, word = self.balances[place], 1 if own else 9000000001
+            self.balances[place] = word
+            self.assertEqual(self.numbers(), (Number.BAD_BOOK, Number.BAD_BOOK), (place, word))
+            self.balances[place] = before
+        for place, word in itertools.product((1, 4097, self.WORDS - 2), (1 << 34, 1 << 63, 2 ** 64 - 1)):
+            self.assertEqual(self.spoilt(3 + place, word), Number.BAD_MARK, (place, word))
+
+    def test_other_marks_are_not_judged(self):
+        for place in (0, 1, 2, 3, 3 + 17, self.MARK - 1):
+            for mark in (0, 2, 3):
+                self.store[self.MARK * mark + place] = 2 ** 64 - 1
+        self.assertEqual(self.numbers(), (0, 0))
+
+    def test_marks_outside(self):
+        for mark in (0, 5, 6, 8, 255, 256, 257, 258, 260, 65536 + 2, 2 ** 31 + 2, 2 ** 32 - 1):
+            self.assertEqual(self.numbers(mark), (Number.NO_SUCH_MARK,) * 2, mark)
+
+    def test_lengths(self):
+        """480 words of the calendar and 8,192 balances, else 1; then 32,780 words of the store, else 16."""
+        words, balances, store = self.calendar, self.balances, self.store
+        for calendar, lent, held in itertools.product((480, 0, 479, 481), (8192, 0, 4096, 8191, 8193),
+                                                      (32780, 0, 1, 8195, 16390, 32779, 32781, 40975)):
+            self.calendar, self.balances, self.store = (words + words)[:calendar], (balances + balances)[:lent], (store + store)[:held]
+            number = Number.WRONG_LENGTH if (calendar, lent) != (480, 8192) else 0 if held == 32780 else Number.NO_SUCH_MARK
+            self.assertEqual(self.numbers(), (number, number), (calendar, lent, held))
+
+    def test_every_month(self):
+        """A bit for a day that the month lacks is refused."""
+        for place, month in enumerate(Dates.MONTHS):
+            before = self.calendar[place]
+            self.calendar[place] = before | 1 << monthrange(*month)[1] - 1
+            self.assertEqual(self.numbers(), (0, 0), month)
+            self.calendar[place] = before | 1 << monthrange(*month)[1]
+            self.assertEqual(self.numbers(), (Number.BAD_CALENDAR,) * 2, month)
+            self.calendar[place] = before
+
+    def test_order(self):
+        """1, 2, 4, 16, 17: where several apply, the first of them, and nothing is written."""
+        long, short = self.store + array("Q", [7]), self.store[:-1]
+        sound = self.calendar, self.balances, self.store
+        for wrong in itertools.product((False, True), (False, True), (None, "day", "word"), (None, "mark", "short", "long"),
+                                       (None, "flag", "day", "count", "word")):
+            balances, calendar, present, where, inside = wrong
+            self.calendar, self.balances, store = sound[0][:], sound[1][:], {"short": short, "long": long}.get(where, sound[2])
+            self.store = store[:]
+            book, mark = self.CLOSED if present == "day" else self.BOOK, 9 if where == "mark" else 2
+            if balances:
+                self.balances.pop()
+            if calendar:
+                self.calendar[0] |= 1 << 31
+            if present == "word":
+                self.balances[17] = 1
+            if inside:
+                place, word = {"flag": (0, 2), "day": (1, 20230401), "count": (2, 2 ** 32), "word": (3 + 17, 1)}[inside]
+                self.store[self.TWO + place] = word
+            number = 1 if balances else 2 if calendar else 4 if present else 16 if where else 0
+            self.assertEqual(self.numbers(mark, book), (number, number or (17 if inside else 0)), wrong)
+
+    def test_old_marks(self):
+        """A store that was kept: its marks are returned to from a book that was opened since."""
+        kept = array("Q", self.store.tobytes())
+        book = claim_tracker.open(CALENDAR, TABLES, self.balances, 20230404).book
+        done = claim_tracker.return_to_mark(CALENDAR, book, self.balances, kept, 2)
+        self.assertEqual((done, self.balances[18]), ((0, Book(20230331, 5), 0), 15000))
+
+    def test_close_behind_a_return(self):
+        """What is claimed behind a return is what the history that ended at the mark claims."""
+        close, store, claims = b"\2\0\2\0", claim_tracker.new_store(), bytearray(70)
+        book = claim_tracker.open(CALENDAR, TABLES, self.balances, 20230331).book
+        start, back = (bytes.fromhex(transfer_hex(*fields, 15000)) for fields in ((1, 2, 0, 0, 1), (2, 1, 0, 0, 3)))
+        self.assertEqual(claim_tracker.transfer_in(CALENDAR, TABLES, book, self.balances, start, bytearray()).number, 0)
+        self.assertEqual(claim_tracker.set_mark(CALENDAR, book, self.balances, store, 3), 0)
+        for message, count, closed in ((None, 1, 1), (back, 2, 0), (None, 1, 1)):
+            if message:
+                self.assertEqual(claim_tracker.transfer_in(CALENDAR, TABLES, book, self.balances, message, bytearray()).number, 0)
+            done = claim_tracker.close(CALENDAR, TABLES, book, self.balances, close, claims)
+            self.assertEqual(done, (0, Book(20230403, count), closed))
+            if closed:
+                self.assertEqual(claim_tracker.read_claim(claims).claim,
+                                 Claim(ClaimType.LENDING, 0, 2, 1, 0, 0, 0, 7500, 0, 20230417, 3))
+            done = claim_tracker.return_to_mark(CALENDAR, done.book, self.balances, store, 3)
+            self.assertEqual((done, self.balances[18]), ((0, Book(20230331, 1), 0), 15000))
+            book = done.book
+
+    def test_trials(self):
+        """Transfers, closes, marks and returns in any order, beside a tally of the history in force, which each mark keeps as it ended there:
+        its day, its count and the par of each pair on loan and on repo."""
+        choice, numbers = random.Random(16), set()
+        pairs = [(1, 2), (2, 1), (3, 15), (0, 7)]
+        day, count, lent, kept = datetime.date(2023, 3, 28), 0, {}, {}
+        book, store = claim_tracker.open(CALENDAR, TABLES, self.balances, 20230328).book, claim_tracker.new_store()
+        for _ in range(3000):
+            mark, step = choice.randrange(6), choice.choice(("transfer", "transfer", "transfer", "close", "set", "return"))
+            if step == "transfer":
+                code, par, (lender, borrower) = choice.randrange(1, 13), choice.randrange(1, 150000), choice.choice(pairs)
+                up, pair = code % 6 in (1, 4, 5), (int(code > 6), lender, borrower)
+                after = lent.get(pair, 0) + (par if up else -par)
+                number = 0 if after >= 0 else Number.ABOVE_BALANCE
+                message = transfer_hex(*((lender, borrower) if up else (borrower, lender)), 0, 0, code, par)
+                done = claim_tracker.transfer(CALENDAR, TABLES, book, self.balances, bytes.fromhex(message), bytearray())
+                if number == 0:
+                    lent, count = lent | {pair: after}, count + 1
+            elif step == "close" and book.day < 20230510:
+                claims, row = bytearray(280), {20230331: 0, 20230428: 1}.get(book.day)
+                done = claim_tracker.close(CALENDAR, TABLES, book, self.balances, b"\2\0\2\0", claims)
+                number, day = 0, day + datetime.timedelta(3 if day.weekday() == 4 else 1)
+                wanted = [Claim(3 + half, 0, borrower, lender, 0, row, 0, (par + 1) // 2, 0, (20230417, 20230515)[row], 3)
+                          for (half, lender, borrower), par in sorted(lent.items()) if row is not None and par]
+                self.assertEqual([claim_tracker.read_claim(claims[35 * at:]).claim for at in range(done.claims)], wanted)
+            elif step != "return":
+                number = 0 if 1 <= mark <= 4 else Number.NO_SUCH_MARK
+                done = claim_tracker.Done(claim_tracker.set_mark(CALENDAR, book, self.balances, store, mark), book, 0)
+                if number == 0:
+                    kept[mark] = day, count, lent
+            else:
+                number = 0 if mark in kept else Number.BAD_MARK if 1 <= mark <= 4 else Number.NO_SUCH_MARK
+                done = claim_tracker.return_to_mark(CALENDAR, book, self.balances, store, mark)
+                day, count, lent = kept.get(mark, (day, count, lent))
+            book = done.book
+            self.assertEqual((done.number, book), (number, Book(int(day.strftime("%Y%m%d")), count)))
+            found = {(place // 4096, place // 16 % 256, place % 16): par for place, par in enumerate(self.balances) if par}
+            self.assertEqual(found, {pair: par for pair, par in lent.items() if par})
+            numbers.add((step, number, done.claims > 0))
+        self.assertLessEqual({("transfer", 0, False), ("transfer", 7, False), ("close", 0, True), ("set", 0, False), ("set", 16, False),
+                              ("return", 0, False), ("return", 16, False), ("return", 17, False)}, numbers)
+
+
 class Largest(unittest.TestCase):
     """The sizes of claim buffers that FORMATS.md names: each is reached, and a byte less is too short."""
     DAYS = 20230102, 20230301, 20230302, 20230303
@@ -1034,6 +1306,36 @@ class Refusals(unittest.TestCase):
         self.refused(ValueError, r"\Abalances and calendar overlap\Z", call, **good(calendar=both.cast("B")[:1920].cast("I")))
         self.assertEqual(call(**good(saved=memoryview(bytes(saved)).cast("Q"))), (0, self.book, 0))
 
+    def test_marks(self):
+        def good(**changed):
+            return {"calendar": CALENDAR, "book": self.book, "balances": self.balances, "store": store, "mark": 1} | changed
+
+        store, both = claim_tracker.new_store(), memoryview(self.balances)
+        for call in (claim_tracker.set_mark, claim_tracker.return_to_mark):
+            for given in (None, "text", [0] * claim_tracker.STORE_WORDS, bytes(store), CALENDAR, array("q", bytes(8)),
+                          memoryview(store)[::2]):
+                for name in ("balances", "store"):
+                    self.refused(TypeError, r"\A%s: .*; allowed: 64-bit words" % name, call, **good(**{name: given}))
+            self.refused(TypeError, r"\Acalendar: .*; allowed: 32-bit words", call, **good(calendar=store))
+            self.refused(TypeError, r"\Abook: of type int; allowed: Book", call, **good(book=DAY))
+            self.refused(ValueError, r"\Abook.count: ", call, **good(book=Book(DAY, 2 ** 32)))
+            for mark in (-1, 2 ** 32, 2 ** 32 + 1):
+                self.refused(ValueError, r"\Amark: -?\d+; allowed: 0 to 4294967295\Z", call, **good(mark=mark))
+            for mark in (None, "1", 1.0):
+                self.refused(TypeError, r"\Amark: of type \w+; allowed: a whole number\Z", call, **good(mark=mark))
+            for part in (both, both[:1], both[-1:]):
+                self.refused(ValueError, r"\Abalances and store overlap\Z", call, **good(store=part))
+        constant = memoryview(bytes(store)).cast("Q")
+        self.refused(TypeError, r"\Astore: cannot be written to", claim_tracker.set_mark, **good(store=constant))
+        self.refused(TypeError, r"\Abalances: cannot be written to", claim_tracker.return_to_mark, **good(balances=constant))
+        self.refused(ValueError, r"\Acalendar and store overlap\Z", claim_tracker.set_mark,
+                     **good(calendar=memoryview(store).cast("B")[:1920].cast("I")))
+        self.refused(ValueError, r"\Abalances and calendar overlap\Z", claim_tracker.return_to_mark,
+                     **good(calendar=both.cast("B")[:1920].cast("I")))
+        zeros = claim_tracker.new_balances()
+        self.assertEqual(claim_tracker.set_mark(**good(balances=constant[:claim_tracker.BALANCE_WORDS])), 0)
+        self.assertEqual(claim_tracker.return_to_mark(**good(balances=zeros, store=constant)), (Number.BAD_MARK, self.book, 0))
+
     def test_overlaps(self):
         call = claim_tracker.transfer
         self.refused(ValueError, r"\Aclaims and message overlap\Z", call, **self.good(message=memoryview(self.buffer)[200:]))
@@ -1079,6 +1381,7 @@ class Refusals(unittest.TestCase):
         self.assertEqual(claim_tracker.line("a"), b"a" + b" " * 63)
         self.assertEqual(claim_tracker.claim_room(3), 105)
         self.assertEqual(claim_tracker.new_pieces(), array("I", [1] * 16))
+        self.assertEqual(claim_tracker.new_store(), array("Q", [0] * 32780))
         for call, given in ((claim_tracker.line, "x" * 65), (claim_tracker.line, "\u00e9"), (claim_tracker.line, b"x"),
                             (claim_tracker.claim_room, -1), (claim_tracker.read_book_file, bytes(9219))):
             self.assertRaises(ValueError, call, given)

@@ -34,6 +34,8 @@ MEANINGS = {
     13: "the pieces have a wrong length or a number outside 1 to 1,000,000",
     14: "the par is no multiple of the security's piece and does not clear the whole balance",
     15: "a tracking code of lending on a day before 30 January 2023",
+    16: "the mark is not 1 to 4, or the store has a wrong length",
+    17: "the mark is unset, or its count, its day or a balance of it is wrong",
     132: "more than one Contract Date tag opens",
     133: "a Contract Date tag without } in its line",
     135: "the Contract Date tag holds no date",

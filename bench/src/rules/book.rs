@@ -31,14 +31,14 @@ fn judge_tables<'a>(calendar: &'a [u32], tables: &'a [u32], balances: usize) -> 
 }
 
 /// A book's day is open and an open day follows it.
-fn judge_day(calendar: &Calendar, day: u32) -> Result<(), u16> {
+pub fn judge_day(calendar: &Calendar, day: u32) -> Result<(), u16> {
     if !days::is_open(calendar, day) || days::open_after(calendar, day).is_none() {
         return Err(4);
     }
     Ok(())
 }
 
-fn judge_balances<const WORDS: usize>(balances: &[u64; WORDS]) -> Result<(), u16> {
+pub fn judge_balances<const WORDS: usize>(balances: &[u64; WORDS]) -> Result<(), u16> {
     let too_large = balances.iter().any(|&par| par > MOST_LENT);
     let own = balances.as_chunks::<256>().0.iter().flat_map(|pars| pars.iter().step_by(17));
     let own = own.fold(0, |all, &par| all | par);
@@ -175,7 +175,7 @@ impl<'a> Sound<'a> {
     }
 }
 
-fn refused(number: u16, book: Book) -> Done {
+pub fn refused(number: u16, book: Book) -> Done {
     Done { number, book, claims: 0 }
 }
 

@@ -1,2 +1,8 @@
 pub mod Numbers
 pub mod Stored
+pub mod Words
+pub mod Sound
+pub mod Turns
+pub mod Theorem
+pub mod Opened
+pub mod Rows
