@@ -17,9 +17,10 @@ const LENT_TRANSFER: u8 = 3;
 // The kind of a carry over.
 const CARRY_OVER: u8 = 4;
 
-// The kinds that set a mark and return to one.
+// The kind that sets a mark.
 const SET_MARK: u8 = 5;
 
+// The kind that returns to one.
 const RETURN_TO_MARK: u8 = 6;
 
 // The length that stands for limits that are not lent.
