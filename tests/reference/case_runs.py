@@ -1,7 +1,7 @@
 """Document 01's cases that no theorem states, its mistakes to rule out, the fail, interim, repo and lending examples of source document 001
 (Clearing Memo 278), Attachment II, the fail examples of source document 004 (Clearing Memo 219), Attachment 3, and the edges of the rules
-of interim claims, of pools that pay late, of repos beside loans, of date limits, of minimum pieces, of days before the memo of 2023 and of
-saved books that are carried over, by the reference.
+of interim claims, of pools that pay late, of repos beside loans, of date limits, of minimum pieces, of days before the memo of 2023, of
+saved books that are carried over and of marks, by the reference.
 
     python3 case_runs.py REFERENCE_FOLDER STEPS_FILE
 
@@ -11,11 +11,14 @@ examples have those of lending; the interim examples are in 2026, where both Set
 examples are in 2002 or 2004, where their Settlement Dates and the days of their claims are open days. Each run is made by the reference's
 tally and its direct calls side by side, but for saved books, which only the direct calls can take. A history is carried over with its
 tally: its calls before the move are made by the reference with repo left out, and those behind it are compared with this form too, up to the
-first with a repo code.
+first with a repo code. A mark that is set in a run has the tally of its history, and so has a return to it where no step has written its
+words; other returns have the direct calls alone. The store is kept from run to run.
 
 Under a call stand its claims and the balances that are not zero: 'lent' for a loan and 'repo' for a repo, each with security, lender,
-borrower and par, loans first; under a refused carry over the words that it changed, of which there are none.
+borrower and par, loans first; under a refused carry over the words that it changed, of which there are none. Under a call that sets a mark
+or returns to one stands a checksum of the store too, and of each mark that is set its number, day and count.
 """
+import copy
 import datetime
 import sys
 
@@ -51,11 +54,12 @@ def lending_history(day, calls):
 
 
 class Run:
-    """A run: calendar and tables, an opening, then calls on the book and balances that the last one left."""
+    """A run: calendar and tables, an opening, then calls on the book, balances and store that the last one left."""
 
     def __init__(self, name, day, tables, calendar=CALENDAR):
         self.name = name
-        self.both = cards.Both(step_files.CARDS)
+        self.trial = self.both = cards.Both(step_files.CARDS)   # the history that has the marks; the one that the book is of
+        self.marked = {}                                        # of each mark, what the form with repo left out has come to
         steps.set_tables(calendar, tables)
         self.open("opening", day)
 
@@ -85,6 +89,7 @@ class Run:
     def move(self, name, day, calls):
         """A history with repo left out, of calls from this day on, carried over. It goes on in both forms."""
         self.lending, self.both = (lending_history(day, calls) for _ in range(2))
+        self.trial = self.both
         result = steps.carry_over("%s-%s" % (self.name, name), *self.both.book, self.both.balances)
         assert self.both.carry_over(steps.calendar) == result.number == 0, name
         assert (self.both.book, self.both.balances) == (result.book, result.balances), name
@@ -111,6 +116,49 @@ class Run:
     def close(self, name, room=ROOM):
         result = steps.close("%s-%s" % (self.name, name), mk.close(), room)
         self.made(name, result, cards.Both.close, mk.close(), step_files.pattern(room))
+
+    def write_store(self, words):
+        """Words of the store written by a step: the marks that have them are no longer those of the history."""
+        steps.set_store(words)
+        for mark in {1 + place // step_files.MARK_WORDS for place in words}:
+            self.trial.tally.marks.pop(mark, None)
+
+    def show_store(self):
+        print(" store", step_files.checksum(steps.store))
+        for mark in range(1, 5):
+            flag, day, count = steps.store[step_files.MARK_WORDS * (mark - 1):][:3]
+            if flag == 1:
+                print(" mark", mark, day, count)
+
+    def set_mark(self, name, mark, **lengths):
+        """A mark set. A history gets it with its tally."""
+        found = steps.store[:step_files.STORE_WORDS]
+        result = steps.set_mark("%s-%s" % (self.name, name), mark, **lengths)
+        if self.both and not lengths:
+            self.both.store = found
+            assert self.both.set_mark(steps.calendar, mark) == result.number, name
+            assert self.both.store == steps.store[:step_files.STORE_WORDS], name
+            self.marked[mark] = copy.deepcopy(self.lending)
+        elif result.number == 0:
+            self.trial.tally.marks.pop(mark, None)
+        self.show(name, result)
+        self.show_store()
+
+    def go_back(self, name, mark, **lengths):
+        """A return to a mark. Where the history has the mark it goes on from there."""
+        trial, found = self.trial, (steps.book, steps.balances, steps.store[:step_files.STORE_WORDS])
+        result = steps.go_back("%s-%s" % (self.name, name), mark, **lengths)
+        if result.number == 0 and mark in trial.tally.marks:
+            self.both, self.lending = trial, copy.deepcopy(self.marked[mark])
+        elif result.number == 0:
+            self.both = self.lending = None
+        if self.both and not lengths:
+            trial.book, trial.balances, trial.store = found
+            assert trial.go_back(steps.calendar, mark) == result.number, name
+            assert (trial.book, trial.balances) == (result.book, result.balances), name
+            trial.check_owed()
+        self.show(name, result)
+        self.show_store()
 
 
 def document_cases():
@@ -743,6 +791,307 @@ def carried_over_the_memo():
         run.close("history-%d-close" % day)
 
 
+def place_in(mark, word):
+    """The place of the store with this word of a mark."""
+    return step_files.MARK_WORDS * (mark - 1) + word
+
+
+# A book that is marked, with a loan and a repo, and one that a return is made from.
+MARKED = (20230331, {18: 15_000, 4_114: 7}, 5)
+PRESENT = (20230404, {20: 1, 4_100: 5}, 9)
+# Words of the store that are not zero, though no mark is set: the first and last words of each mark, and the word behind the store.
+STRAY = {place: 7 + place for mark in range(1, 5) for place in (*(place_in(mark, w) for w in (0, 1, 2, 3, 21, 4_099)), place_in(mark, -1))
+         if place >= 0} | {step_files.STORE_WORDS - 1: 3, step_files.STORE_WORDS: 4}
+# Balances that 4 refuses, and balances about them that it does not.
+REFUSED_BALANCES = {
+    "with-itself": {17: 1}, "with-itself-first": {0: 1}, "with-itself-on-repo": {4_113: 1}, "with-itself-first-on-repo": {4_096: 1},
+    "with-itself-last": {8_191: 9_000_000_000}, "past-the-limit": {18: 9_000_000_001}, "past-the-limit-first": {1: 9_000_000_001},
+    "past-the-limit-on-repo": {4_114: 9_000_000_001}, "past-the-limit-last": {8_190: 9_000_000_001}, "largest-word": {19: 2 ** 64 - 1}}
+TAKEN_BALANCES = {"at-the-limit": {1: 9_000_000_000, 8_190: 9_000_000_000}, "around-with-itself": {4_113 + d: 7 for d in (-16, -1, 1, 16)},
+                  "no-par": {18: 0, 4_114: 0}}
+# Words of mark 2 for which a return is refused, and others with which it is not.
+UNSET = {"flag-%d" % n: {0: n} for n in (0, 2, 257, 2 ** 32, 2 ** 32 + 1, 2 ** 63 + 1, 2 ** 64 - 1)}
+BAD_COUNTS = {"count-%d" % n: {2: n} for n in (2 ** 32, 2 ** 32 + 5, 2 ** 64 - 1)}
+BAD_DAYS = {"day-%d" % n: {1: n} for n in (0, 20230401, 20230229, 20391230, 20391231, 2 ** 32 - 1, 2 ** 32 + 20230331, 2 ** 63 + 20230331,
+                                           2 ** 64 - 1)}
+TAKEN_WORDS = {"count-0": {2: 0}, "count-4294967295": {2: 2 ** 32 - 1}, "first-open-day": {1: 20000103}, "day-before-the-last": {1: 20391229},
+               "day-before-the-memo": {1: LAST_DAY}}
+
+
+def mark_run(name):
+    """A run on the cases, with a store of stray words, in which mark 2 is set on a saved book with a loan and a repo."""
+    run = Run(name, 20230331, mk.cases_tables())
+    run.write_store({w: 0 for w, value in enumerate(steps.store) if value} | STRAY)
+    run.save(*MARKED)
+    run.set_mark("set-2", 2)
+    return run
+
+
+def marks_set():
+    """A mark of a saved book, and returns to it and to others; marks that there are not, and stores of other lengths. Then marks at the ends
+    of the store, over stray words, with other books."""
+    run = mark_run("mark")
+    run.save(*PRESENT)
+    for name, mark in (("return", 2), ("return-again", 2), ("return-to-1", 1), ("return-to-3", 3), ("return-to-4", 4)):
+        run.go_back(name, mark)
+    run.transfer("loan-returned", 2, 1, 0, 5_000, 3)
+    run.close("close")
+    run.save(*PRESENT)
+    for call, made in (("set", run.set_mark), ("return-to", run.go_back)):
+        for mark in (0, 5, 9, 255, 256, 257, 258, 65_538, 2 ** 31 + 2, 2 ** 32 - 1):
+            made("%s-%d" % (call, mark), mark)
+        for mark, words in ((2, 0), (1, 8_195), (2, 8_195), (2, 16_390), (2, 24_585), (2, 32_779), (2, 32_781), (4, 32_779), (5, 32_781)):
+            made("%s-%d-in-%d-words" % (call, mark, words), mark, store_words=words)
+        for name, more in (("479-calendar-words", {"calendar_words": 479}), ("no-calendar", {"calendar_words": 0}),
+                           ("8191-balances", {"lent": 8_191}), ("4096-balances", {"lent": 4_096}), ("no-balances", {"lent": 0})):
+            made("%s-2-with-%s" % (call, name), 2, **more)
+            made("%s-9-with-%s-in-no-words" % (call, name), 9, store_words=0, **more)
+    for mark, day, words, count in ((1, 20391229, {1: 9_000_000_000}, 2 ** 32 - 1), (4, 20000103, {8_190: 9_000_000_000}, 0),
+                                    (3, MEMO_DAY, TAKEN_BALANCES["around-with-itself"], 1), (2, LAST_DAY, {}, 7)):
+        run.save(day, words, count)
+        run.set_mark("set-%d-on-%d" % (mark, day), mark)
+    for mark in (4, 1, 2, 3):
+        run.go_back("return-to-%d-of-four" % mark, mark)
+        if mark == 1:
+            run.transfer("with-a-full-count", 1, 2, 0, 200_000)
+
+
+def marks_refused():
+    """A return to mark 2 with words of it written, each alone, from a book other than the marked one; then with two words, for a mark that there
+    is not, and in a store that is too long."""
+    run = mark_run("spoilt-mark")
+    set_words = steps.store[:]
+    for name, words in {
+            **UNSET, **BAD_COUNTS, **BAD_DAYS, **{"saved-" + name: {3 + w: par for w, par in words.items()} for name, words in REFUSED_BALANCES.items()},
+            **TAKEN_WORDS, **{"saved-" + name: {3 + w: par for w, par in words.items()} for name, words in TAKEN_BALANCES.items()},
+            "flag-0-alone": {0: 0, 1: 0, 2: 0, 21: 0, 4_117: 0}}.items():
+        places = {place_in(2, word): value for word, value in words.items()}
+        run.save(*PRESENT)
+        run.write_store(places)
+        run.go_back(name, 2)
+        run.write_store({place: set_words[place] for place in places})
+    run.save(*PRESENT)
+    run.write_store({place_in(2, 0): 0})
+    run.go_back("flag-0-in-32781-words", 2, store_words=32_781)
+    run.go_back("flag-0-to-6", 6)
+    run.set_mark("set-over-flag-0", 2)
+    run.write_store({place_in(2, 1): 20230401, place_in(2, 2): 2 ** 32, place_in(2, 20): 2 ** 64 - 1})
+    run.go_back("three-words-written", 2)
+    run.set_mark("set-over-three-words", 2)
+    run.save(*MARKED)
+    run.go_back("return-after-it", 2)
+
+
+def present_book_refused():
+    """Both calls on books that 4 refuses: with a mark that is set, with one that is not, with a mark that there is not, and with a store that is
+    too short. Then a bad calendar, and one with the marked day closed."""
+    run = mark_run("present")
+    for name, day, words in [("day-%d" % day, day, MARKED[1]) for day in (20230401, 20230229, 20391230, 0)] + [
+            (name, MARKED[0], words) for name, words in REFUSED_BALANCES.items()]:
+        run.save(day, words, 5)
+        run.set_mark(name + "-set-2", 2)
+        run.go_back(name + "-return-to-2", 2)
+        run.set_mark(name + "-set-9", 9)
+        run.go_back(name + "-return-to-9", 9)
+        run.go_back(name + "-return-to-1", 1)
+        run.set_mark(name + "-set-2-in-32779-words", 2, store_words=32_779)
+    bad = list(CALENDAR)
+    bad[0] |= 1 << 31
+    for name, calendar, book in (
+            ("bad-calendar", bad, PRESENT), ("bad-calendar-and-closed-day", bad, (20230401, {}, 5)),
+            ("marked-day-closed", mk.only((20230403, 20230404, 20230405)), PRESENT),
+            ("marked-day-last", mk.only((20230330, 20230331)), (20230330, {20: 1}, 9)),
+            ("marked-day-open-alone", mk.only((20230330, 20230331, 20391231)), (20230330, {20: 1}, 9))):
+        steps.set_tables(calendar, steps.tables)
+        run.save(*book)
+        run.go_back(name + "-return", 2)
+        run.save(*book)
+        run.set_mark(name + "-set-9", 9)
+        run.set_mark(name + "-set-3", 3)
+        run.set_mark(name + "-set-3-with-8191-balances", 3, lent=8_191)
+
+
+TRIAL_CALENDAR = mk.only((20230331, 20230403, 20230428, 20230501, 20230502, 20230515))
+TRIAL_TABLES = mk.tables_of({s: mk.security(3, 1, [mk.cases_row(4), mk.cases_row(5)]) for s in (0, 15)})
+
+
+def trial_run(name, day=20230331):
+    """A run with a store of zeros, on open days around two Record Dates."""
+    run = Run("trial-" + name, day, TRIAL_TABLES, TRIAL_CALENDAR)
+    run.write_store({w: 0 for w, value in enumerate(steps.store) if value})
+    return run
+
+
+def made_calls(run, calls, more=""):
+    """Calls by name: the fields of a transfer, or None for a close."""
+    for name, (fields, lent) in calls.items():
+        if fields is None:
+            run.close(name + more)
+        else:
+            run.transfer(name + more, *fields, **lent)
+
+
+def trials_of_a_list():
+    """One list of calls with a mark set at four places of it, of which one is behind its end; each is returned to, and the calls behind it are
+    made again. Then returns from one mark's history to another's, with other calls."""
+    run = trial_run("list")
+    parts = (
+        {"lent": ((1, 2, 0, 50_000, 1), {}), "repo": ((1, 2, 0, 40_000, 7), {}), "lent-in-the-last-security": ((15, 14, 15, 70_000, 5), {})},
+        {"returned": ((2, 1, 0, 20_000, 3), {}), "close-of-20230331": (None, {})},
+        {"fail": ((1, 2, 0, 200_000), {"contract": 20230315}), "returned-above-it": ((2, 1, 0, 30_001, 2), {}),
+         "repo-returned": ((2, 1, 0, 15_000, 9), {}), "repo-the-other-way": ((2, 1, 15, 1_000, 10), {}), "close-of-20230403": (None, {})},
+        {"lent-more": ((1, 2, 0, 10_000, 5), {}), "no-account": ((1, 16, 0, 10_000, 5), {}), "close-of-20230428": (None, {}),
+         "returned-in-full": ((2, 1, 0, 40_000, 2), {})})
+    places = {1: 1, 3: 2, 4: 3, 2: 4}        # each mark with how many parts stand before it
+    for i, part in enumerate(parts):
+        made_calls(run, part)
+        for mark in (mark for mark, place in places.items() if place == i + 1):
+            run.set_mark("mark-%d" % mark, mark)
+    for mark in (3, 1, 4, 2):
+        run.go_back("return-to-%d" % mark, mark)
+        run.go_back("return-to-%d-twice" % mark, mark)
+        for part in parts[places[mark]:]:
+            made_calls(run, part, "-after-%d" % mark)
+    run.go_back("return-to-1-from-2", 1)
+    run.transfer("loan-returned-after-1", 2, 1, 0, 50_000, 3)
+    run.close("close-with-the-repo-after-1")
+    run.go_back("return-to-2-from-1", 2)
+    run.go_back("return-to-3-from-2", 3)
+    run.close("close-after-3-from-2")
+
+
+def trials_crosswise():
+    """Two marks returned to crosswise, other work done behind each; marks set again, on later and on earlier days; returns to marks that are
+    not set and to none in the middle; an opening between a mark and its return."""
+    run = trial_run("crosswise")
+    run.go_back("return-before-any-mark", 1)
+    run.set_mark("mark-1-of-the-opening", 1)
+    run.transfer("lent", 1, 2, 0, 10_000, 1)
+    run.set_mark("mark-2", 2)
+    run.transfer("repo", 1, 2, 0, 30_000, 7)
+    run.close("close-with-both")
+    for name, mark in (("return-to-1", 1), ("return-to-2", 2), ("return-to-1-again", 1)):
+        run.go_back(name, mark)
+    run.transfer("lent-in-its-place", 1, 2, 0, 25_000, 1)
+    run.go_back("return-to-3-unset", 3)
+    run.go_back("return-to-0", 0)
+    run.set_mark("mark-5", 5)
+    run.close("close-in-its-place")
+    run.transfer("returned-in-its-place", 2, 1, 0, 25_001, 3)
+    run.go_back("return-to-2-across", 2)
+    run.close("close-across")
+    run.set_mark("mark-2-again", 2)
+    run.transfer("fail", 1, 2, 0, 200_000, contract=20230315)
+    run.set_mark("mark-4", 4)
+    run.go_back("return-to-1-over-both", 1)
+    run.set_mark("mark-4-again-on-an-earlier-day", 4)
+    run.transfer("repo-in-its-place", 1, 2, 0, 5_000, 7)
+    run.go_back("return-to-2-on-a-later-day", 2)
+    run.transfer("returned", 2, 1, 0, 10_000, 3)
+    run.go_back("return-to-4", 4)
+    run.close("close-of-nothing")
+    run.open("opening-again", 20230403)
+    run.transfer("lent-behind-it", 3, 4, 15, 1_000, 1)
+    run.go_back("return-to-2-over-the-opening", 2)
+    run.transfer("returned-over-the-opening", 2, 1, 0, 4_000, 3)
+    run.close("close-over-the-opening")
+    run.close("close-of-20230428")
+
+
+def trials_with_old_marks():
+    """A store that another run has left: its marks are returned to from an opening on a later day, and overwritten."""
+    run = Run("trial-old-marks", 20230502, TRIAL_TABLES, TRIAL_CALENDAR)
+    run.go_back("return-to-3-unset", 3)
+    run.transfer("lent", 1, 2, 0, 10_000, 1)
+    run.set_mark("mark-1", 1)
+    run.go_back("return-to-an-old-one", 2)
+    run.close("close-after-an-old-one")
+    run.go_back("return-to-its-own", 1)
+    run.transfer("returned", 2, 1, 0, 10_000, 3)
+    run.set_mark("mark-2-over-an-old-one", 2)
+    run.go_back("return-to-another-old-one", 4)
+    run.go_back("return-to-2", 2)
+    run.transfer("returned-above-it", 2, 1, 0, 1, 3)
+
+
+def trials_with_other_tables():
+    """Calendar and tables that change between a mark and its return: the close behind it is over the dates and rows that it is lent."""
+    run = trial_run("other-tables")
+    run.transfer("lent", 1, 2, 0, 10_000, 1)
+    run.transfer("repo", 2, 1, 0, 20_000, 7)
+    run.set_mark("mark", 1)
+    run.close("close")
+    twice = [mk.cases_row(4)._replace(interest_factor=2 * mk.cases_row(4).interest_factor), mk.cases_row(5)]
+    steps.set_tables(mk.only((20230331, 20230404, 20230405)), mk.tables_of({0: mk.security(3, 1, twice)}))
+    run.go_back("return-from-a-closed-day", 1)
+    run.open("opening-on-another-day", 20230404)
+    run.go_back("return", 1)
+    run.close("close-over-other-rows")
+    steps.set_tables(mk.only((20230404, 20230405, 20230502, 20230503)), TRIAL_TABLES)
+    run.go_back("return-to-a-closed-day", 1)
+    run.close("close-of-20230404")
+    steps.set_tables(TRIAL_CALENDAR, TRIAL_TABLES)
+    run.open("opening-on-20230502", 20230502)
+    run.go_back("return-as-it-was", 1)
+    run.close("close-as-it-was")
+
+
+def trials_over_the_memo():
+    """Marks on both sides of the memo's day, each returned to from the other side: the rules are those of the day that comes back."""
+    run, sent = memo_run("trial", LAST_DAY)
+
+    def calls(more):
+        sent("fail" + more, contract=20220615)
+        sent("loan" + more, "on-the-day", par=50_000, code=1)
+        sent("repo" + more, "on-the-day", par=30_000, code=7)
+        sent("empty-tag" + more, line2=EMPTY_TAG)
+
+    calls("")
+    run.set_mark("mark-1", 1)
+    run.close("close-of-%d" % LAST_DAY)
+    calls("-from-it-on")
+    run.set_mark("mark-2", 2)
+    run.close("close-of-%d" % MEMO_DAY)
+    run.go_back("return-before-it", 1)
+    calls("-back-before-it")
+    run.close("close-back-before-it")
+    run.go_back("return-from-it-on", 2)
+    calls("-back-from-it-on")
+    run.go_back("return-before-it-again", 1)
+    run.go_back("return-to-3-unset", 3)
+    sent("repo-return", "on-the-day", 30_000, 9, True)
+    run.close("close-with-nothing")
+
+
+def trials_of_carried_books():
+    """A history that is carried over, marked at once and behind a call, and returned to; then a saved book that is carried over, marked with old
+    marks in the store, and carried over again."""
+    run = trial_run("carried")
+    run.move("move", 20230331, [((1, 2, 0, 50_000, 1), {}), ((15, 14, 15, 70_000, 5), {}), ((2, 1, 0, 20_000, 3), {})])
+    run.set_mark("mark-3", 3)
+    run.transfer("returned-above-it", 2, 1, 0, 30_001, 3)
+    run.transfer("returned", 2, 1, 0, 30_000, 3)
+    run.set_mark("mark-4", 4)
+    run.close("close")
+    run.go_back("return-to-3", 3)
+    run.close("close-after-3")
+    run.go_back("return-to-4", 4)
+    run.transfer("lent", 1, 2, 0, 1_000, 5)
+    run.transfer("repo", 1, 2, 0, 2_000, 7)
+    run.close("close-after-4")
+    run.go_back("return-to-3-again", 3)
+    run.transfer("returned-after-3", 2, 1, 0, 30_000, 3)
+    run.close("close-after-3-again")
+    run.carry_over("saved", 20230428, {18: 15_000}, 2 ** 32 - 2)
+    run.set_mark("mark-3-of-a-saved-book", 3)
+    run.transfer("repo-of-a-saved-book", 1, 2, 0, 2_000, 7)
+    run.carry_over("saved-again", 20230331, {19: 1_000}, 3)
+    run.go_back("return-to-3-of-a-saved-book", 3)
+    run.close("close-of-a-saved-book")
+    run.go_back("return-to-4-from-a-saved-book", 4)
+    run.close("close-after-4-from-a-saved-book")
+
+
 document_cases()
 mistakes()
 memo_fails()
@@ -767,4 +1116,13 @@ held_before_the_memo()
 carried_books()
 carried_histories()
 carried_over_the_memo()
+marks_set()
+marks_refused()
+present_book_refused()
+trials_of_a_list()
+trials_crosswise()
+trials_with_old_marks()
+trials_with_other_tables()
+trials_over_the_memo()
+trials_of_carried_books()
 steps.write(sys.argv[2])

@@ -4,7 +4,8 @@
 
 writes the calls to STEPS_FILE (crates/extremes/data/extremes.in) and prints what the program extremes has to write for them
 (crates/extremes/stdout): for each call its name, number, day, count and claims, and the checksums of the claim buffer and of the
-balances after it. Where a step fills all words of the balances, it fills those of repos too.
+balances after it; for a call that sets a mark or returns to one those of the balances and of the store. Where a step fills all words of the
+balances, it fills those of repos too.
 """
 import sys
 
@@ -34,6 +35,13 @@ def transfer(name, room, *fields, limits=None, pieces=None, **more):
 
 def close(name, room):
     show(name, steps.close(name, mk.close(), room))
+
+
+def mark(name, form, number):
+    """A mark set or returned to."""
+    result = form(name, number)
+    print(name, result.number, result.book.day, result.book.count, result.claims, step_files.checksum(result.balances),
+          step_files.checksum(steps.store))
 
 
 def balances_of(*entries, start=0):
@@ -141,13 +149,27 @@ def every_row():
         {s: mk.security(s % 4 + 1, s // 4 + 1, [row(s, r) for r in range(16)]) for s in range(16)}))
     balances = every_balance()
     steps.set_book(20000103, 3, balances)
+    mark("every-balance-marked", steps.set_mark, 1)
+    mark("every-balance-marked-at-the-end", steps.set_mark, 4)
+    mark("return-to-a-mark-that-is-not-set", steps.go_back, 2)
+    mark("every-balance-marked-between", steps.set_mark, 2)
     close("every-row-one-byte-over", 35 * EVERY_CLAIM + 1)
-    steps.set_book(20000103, 3, [0 if w // 16 % 16 == w % 16 else LIMIT for w in range(rules.words)])
+    steps.set_book(20000103, 4_294_967_295, [0 if w // 16 % 16 == w % 16 else LIMIT for w in range(rules.words)])
+    mark("every-balance-at-the-limit-marked", steps.set_mark, 3)
     close("every-row-at-the-limit", 35 * EVERY_CLAIM)
-    steps.set_book(20000103, 3, balances)
+    mark("every-balance-marked-again", steps.set_mark, 1)
+    mark("return-to-every-balance", steps.go_back, 4)
     close("every-row-no-buffer", 0)
     close("every-row-one-byte-short", 35 * EVERY_CLAIM - 1)
     close("every-row", 35 * EVERY_CLAIM)
+    mark("return-to-every-balance-at-the-limit", steps.go_back, 3)
+    transfer("no-transfer-number-left-after-a-return", 35, 9, 8, 2, 77_777_777, contract=20000103)
+    close("every-row-after-a-return", 35 * EVERY_CLAIM)
+    mark("return-on-a-later-day", steps.go_back, 1)
+    mark("return-to-every-balance-at-the-end", steps.go_back, 4)
+    close("every-row-after-all", 35 * EVERY_CLAIM)
+    mark("every-balance-marked-between-again", steps.set_mark, 2)
+    mark("every-balance-marked-at-the-end-again", steps.set_mark, 4)
     transfer("seven-rows-no-buffer", 0, 9, 8, 2, 77_777_777, contract=20000103)
     transfer("seven-rows-one-byte-short", 244, 9, 8, 2, 77_777_777, contract=20000103)
     transfer("seven-rows", 245, 9, 8, 2, 77_777_777, contract=20000103)

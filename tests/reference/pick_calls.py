@@ -2,12 +2,12 @@
 
     python3 pick_calls.py REFERENCE_FOLDER SEED COUNT FOLDER
 
-makes random calls by the reference's make_calls.py, some of them once more with half a book, with other limits, with other pieces or with
-another saved book, and writes COUNT of them to FOLDER/calls.in, with what they should give in FOLDER/calls.expected (the format is that of
-make_calls.py; crates/call_files/src/entries.rt reads it). It takes first calls that show what is wanted (step_files.wanted, REPOS, LIMITS,
-PIECES, MEMO and CARRIED), always the one that shows most of what is left, then likewise calls that show all answers to each kind of call and
-all parts of wrong length, then others in their order, those with claims first; none with a large claim buffer. It prints what the calls
-cover, and fails where something that is wanted is missing.
+makes random calls by the reference's make_calls.py, some of them once more with half a book, with other limits, with other pieces, with
+another saved book or with another store, and writes COUNT of them to FOLDER/calls.in, with what they should give in FOLDER/calls.expected (the
+format is that of make_calls.py; crates/call_files/src/entries.rt reads it). It takes first calls that show what is wanted (step_files.wanted,
+REPOS, LIMITS, PIECES, MEMO, CARRIED and MARKED), always the one that shows most of what is left, then likewise calls that show all answers to
+each kind of call and all parts of wrong length, then others in their order, those with claims first; none with a large claim buffer. It
+prints what the calls cover, and fails where something that is wanted is missing.
 """
 import collections
 import os
@@ -20,7 +20,7 @@ ref, mk, cards, make_calls = step_files.reference_modules(folder, "reference", "
 
 CALLS = ("open", "transfer", "close", "transfer with lists", "carry over", "set a mark", "go back to a mark", "forecast", "explain",
          "transfer on one of several books", "close on one of several books")
-ONE_BOOK, WITH_LISTS, CARRY_OVER = (0, 1, 2, 3), 3, 4
+ONE_BOOK, WITH_LISTS, CARRY_OVER, SET_MARK, GO_BACK = (0, 1, 2, 3), 3, 4, 5, 6
 NUMBERS = step_files.in_force(step_files.ANSWERS)
 # What calls show of the words of repos: repo_facts.
 REPOS = {("repos", "cleared", "open")} | {("repos", "half a book", call) for call in CALLS[:4]} | {
@@ -56,7 +56,32 @@ CARRIED = {("carried", 1, name, more) for name in CARRIED_LENGTHS for more in (-
         (0, "loan before the memo"), (0, "loan from the memo on"), (0, "day before the last"), (0, "par in the first security"),
         (0, "par in the last security"), (0, "par in every security"), (0, "largest balance"), (0, "nothing on loan"))} | {
     ("carried", n, "both halves") for n in (0, 1, 2, 4)}
-WANTED = step_files.wanted(NUMBERS) | REPOS | LIMITS | PIECES | MEMO | CARRIED
+# The lengths of what a call with a mark is lent beside the store, whose length is judged with the mark.
+MARK_LENGTHS = {"calendar": 480, "balances": 2 * step_files.REPO_AT}
+# What calls with a mark show, with their numbers: mark_facts. A cause that is named stands alone, and a mark that there is not is named where
+# all four marks could be returned to. 'Seen': what a call that is not refused would write differs from what stands there. 'Much par': it is
+# 20 words or more. 'At its ends': par, or words of the store, at the first and the last places of each half that can hold it.
+MARKS = {("marked", call, *shown) for call in ("set", "return") for shown in (
+    *((1, name, more) for name in MARK_LENGTHS for more in (-1, 1)), (1, "balances", -step_files.REPO_AT),
+    (1, "before 2"), (1, "before 4"), (1, "before 16"), (2, "alone"), (2, "before 4"), (2, "before 16"), (4, "before 16"),
+    *((4, name) for name in ("closed day", "last open day", "no date", "past the limit", "past the limit in the last security", "with itself",
+                             "first word", "last word")),
+    *((16, "mark", mark) for mark in (0, 5, 255, 257, 2 ** 16 + 2, 2 ** 32 - 1)),
+    *((16, "store", words - step_files.STORE_WORDS) for words in (step_files.MARK_WORDS, step_files.STORE_WORDS - 1, step_files.STORE_WORDS + 1)),
+    *((n, "seen") for n in (1, 2, 4, 16)), (0, "much par"), *((0, "mark", mark) for mark in range(1, 5)),
+    *((0, name) for name in ("largest count", "count 0", "before the memo", "from the memo on", "day before the last", "loan and repo",
+                             "nothing on loan or repo", "largest balance", "at its ends")))} | {
+    ("marked", "set", 16, "store", -step_files.STORE_WORDS)} | {
+    ("marked", "set", 0, name) for name in ("over a mark that is set", "over one that is not", "over words at its ends", "beside other marks",
+                                            "beside words at its ends")} | {
+    ("marked", "return", 0, name) for name in ("to another day and count", "over par at its ends", "beside marks that are refused")} | {
+    ("marked", "return", 4, "before 17"), ("marked", "return", 16, "before 17"), ("marked", "return", 17, "seen"), ("marked", "return", 17, "never set")} | {
+    ("marked", "return", 17, "flag", n) for n in (0, 2, 257, 2 ** 32 + 1, 2 ** 64 - 1)} | {
+    ("marked", "return", 17, "count", n) for n in (2 ** 32, 2 ** 32 + 9, 2 ** 64 - 1)} | {
+    ("marked", "return", 17, "day", name) for name in ("closed day", "last open day", "no date", "past 32 bits")} | {
+    ("marked", "return", 17, "saved", name) for name in ("past the limit", "past the limit in the last security", "with itself", "first word",
+                                                         "last word")}
+WANTED = step_files.wanted(NUMBERS) | REPOS | LIMITS | PIECES | MEMO | CARRIED | MARKS
 LARGEST_BUFFER = 4096
 CANDIDATES = 40 * count
 EVERY_DAY = mk.calendar_of(lambda date: True)
@@ -74,21 +99,20 @@ def fitted(words, length) -> list:
     return (words + [0] * length)[:length]
 
 
-def refused_day(call) -> str:
-    """Why the day of a carry over is refused."""
-    days = ref.open_days(call["calendar"])
-    return "no date" if not ref.is_date(call["day"]) else "last open day" if call["day"] in days else "closed day"
+def refused_day(calendar, day) -> str:
+    """Why the day of a book is refused."""
+    return "no date" if not ref.is_date(day) else "last open day" if day in ref.open_days(calendar) else "closed day"
 
 
 def bad_balance_facts(saved) -> set:
-    """What saved balances show for which alone a carry over is refused."""
+    """What balances show for which alone a book is refused."""
     large = [w for w, par in enumerate(saved) if par > ref.LARGEST_BALANCE]
     own = [w for w, par in enumerate(saved) if par and w // 16 % 16 == w % 16]
     if large and own:
         return set()
     return {name for name, holds in {
-        "past the limit": large, "past the limit in the last security": min(large, default=0) >= 15 * 256, "with itself": own,
-        "first word": own == [0], "last word": own == [step_files.REPO_AT - 1]}.items() if holds}
+        "past the limit": large, "past the limit in the last security": min(large, default=0) >= len(saved) - 256, "with itself": own,
+        "first word": own == [0], "last word": own == [len(saved) - 1]}.items() if holds}
 
 
 def accepted_carry_facts(call) -> set:
@@ -120,10 +144,122 @@ def carried_facts(call, number, answer) -> set:
     if number == 4 and answer(balances=[0] * step_files.REPO_AT) == 0:
         facts |= {(name,) for name in bad_balance_facts(call["balances"])}
     elif number == 4 and not ref.cause_4_balances(call["balances"]):
-        facts.add((refused_day(call),))
+        facts.add((refused_day(call["calendar"], call["day"]),))
     if number == 0:
         facts |= {(name,) for name in accepted_carry_facts(call)}
     return {("carried", number, *fact) for fact in facts}
+
+
+def mark_words(words, mark) -> list:
+    """The words of a mark in a store."""
+    at = step_files.MARK_WORDS * (mark - 1)
+    return words[at:at + step_files.MARK_WORDS]
+
+
+def end_places(words) -> list:
+    """The first and the last places that can hold par of each half of balances."""
+    return [at + step_files.REPO_AT * half for half in range(len(words) // step_files.REPO_AT) for at in (1, step_files.REPO_AT - 2)]
+
+
+def moved_facts(call, day, count, balances) -> set:
+    """What a call that is taken shows of the book and balances that it saves or brings back."""
+    is_old = cards.Rules(step_files.CARDS).old(day)
+    return {("mark", call["mark"])} | {(name,) for name, holds in {
+        "largest count": count == ref.LARGEST_COUNT, "count 0": count == 0, "before the memo": is_old and any(balances),
+        "from the memo on": not is_old and any(balances), "day before the last": day == ref.open_days(call["calendar"])[-2],
+        "loan and repo": any(balances[:step_files.REPO_AT]) and any(balances[step_files.REPO_AT:]),
+        "nothing on loan or repo": not any(balances), "largest balance": max(balances) == ref.LARGEST_BALANCE,
+        "much par": sum(map(bool, balances)) >= 20, "at its ends": all(balances[w] for w in end_places(balances))}.items() if holds}
+
+
+def set_facts(call, result) -> set:
+    """What a mark that is set shows."""
+    found, left = (mark_words(words, call["mark"]) for words in (call["words"], result.words))
+    at = step_files.MARK_WORDS * (call["mark"] - 1)
+    around = call["words"][max(0, at - 1):at] + call["words"][at + len(found):][:1]
+    ends = [0, 1, 2] + [3 + w for w in (0, step_files.REPO_AT - 1, step_files.REPO_AT, 2 * step_files.REPO_AT - 1)]
+    return moved_facts(call, call["day"], call["count"], call["balances"]) | {(name,) for name, holds in {
+        "over a mark that is set": found[0] == 1 and found != left, "over one that is not": found[0] != 1,
+        "over words at its ends": all(found[w] not in (0, left[w]) for w in ends),
+        "beside other marks": all(any(mark_words(call["words"], mark)) for mark in range(1, 5)),
+        "beside words at its ends": all(around)}.items() if holds}
+
+
+def returned_facts(call, result, answer) -> set:
+    """What an accepted return shows."""
+    others = [answer(mark=mark) for mark in range(1, 5) if mark != call["mark"]]
+    return moved_facts(call, *result.book, result.balances) | {(name,) for name, holds in {
+        "to another day and count": call["day"] != result.book.day and call["count"] != result.book.count,
+        "over par at its ends": all(call["balances"][w] != result.balances[w] != 0 != call["balances"][w] for w in end_places(result.balances)),
+        "beside marks that are refused": others == [17] * 3}.items() if holds}
+
+
+def refused_mark_facts(call) -> set:
+    """What a mark shows that is not returned to: the words for which alone it is refused."""
+    words, rules = mark_words(call["words"], call["mark"]), cards.Rules(step_files.CARDS)
+    (flag, day, count), saved = words[:3], words[3:]
+    causes = {"flag": flag != 1, "count": count > ref.LARGEST_COUNT, "day": ref.cause_4_day(call["calendar"], day),
+              "saved": rules.bad_balances(saved)}
+    alone = [name for name, holds in causes.items() if holds]
+    if not any(words):
+        return {("never set",)}
+    if alone == ["saved"]:
+        return {("saved", name) for name in bad_balance_facts(saved)}
+    if alone == ["day"]:
+        is_cut = day >= 2 ** 32 and not ref.cause_4_day(call["calendar"], day % 2 ** 32)
+        return {("day", "past 32 bits" if is_cut else refused_day(call["calendar"], day))}
+    return {(name, value) for name, value in (("flag", flag), ("count", count)) if alone == [name]}
+
+
+def no_mark_facts(call, answer) -> set:
+    """What a call shows that is refused for its mark or for the length of its store."""
+    if len(call["words"]) != step_files.STORE_WORDS:
+        rest = answer(words=fitted(call["words"], step_files.STORE_WORDS))
+        return {("store", len(call["words"]) - step_files.STORE_WORDS)} if rest == 0 else {("before %d" % rest,)}
+    rest = {answer(mark=mark) for mark in range(1, 5)}
+    return {("mark", call["mark"])} if rest == {0} else {("before 17",)} if rest == {17} else set()
+
+
+def bad_book_facts(call, answer) -> set:
+    """What a call with a mark shows that is refused for the book that it is given."""
+    zeros = [0] * len(call["balances"])
+    rest = answer(day=ref.open_days(call["calendar"])[0], balances=zeros)
+    if rest:
+        return {("before %d" % rest,)}
+    if answer(balances=zeros) != 4:
+        return {(name,) for name in bad_balance_facts(call["balances"])}
+    if not cards.Rules(step_files.CARDS).bad_balances(call["balances"]):
+        return {(refused_day(call["calendar"], call["day"]),)}
+    return set()
+
+
+def is_seen(call) -> bool:
+    """Whether a mark and the book that a call is given have other days, other counts and other par in each half."""
+    marks = [mark_words(call["words"], mark) for mark in range(1, 5)]
+    mark = marks[call["mark"] - 1 if call["mark"] in range(1, 5) else 0]
+    halves = [(words[:step_files.REPO_AT], words[step_files.REPO_AT:]) for words in (mark[3:], call["balances"])]
+    return len(mark) > 3 and mark[1] != call["day"] and mark[2] != call["count"] and all(a != b and any(a) and any(b) for a, b in zip(*halves))
+
+
+def mark_facts(call, result, answer) -> set:
+    """What a call with a mark shows. answer: its number with other arguments."""
+    number, facts = result.number, {("seen",)} if result.number and is_seen(call) else set()
+    if number == 1:
+        wrong = {name: len(call[name]) - length for name, length in MARK_LENGTHS.items() if len(call[name]) != length}
+        rest = answer(**{name: fitted(call[name], MARK_LENGTHS[name]) for name in wrong})
+        facts |= {("before %d" % rest,)} if rest else set(wrong.items()) if len(wrong) == 1 else set()
+    if number == 2:
+        rest = answer(calendar=[bits & every for bits, every in zip(call["calendar"], EVERY_DAY)])
+        facts.add(("before %d" % rest,) if rest else ("alone",))
+    if number == 4:
+        facts |= bad_book_facts(call, answer)
+    if number == 16:
+        facts |= no_mark_facts(call, answer)
+    if number == 17:
+        facts |= refused_mark_facts(call)
+    if number == 0:
+        facts |= set_facts(call, result) if call["kind"] == SET_MARK else returned_facts(call, result, answer)
+    return {("marked", "set" if call["kind"] == SET_MARK else "return", number, *fact) for fact in facts}
 
 
 def repo_facts(call, result) -> set:
@@ -264,6 +400,8 @@ def shown(call, result) -> set:
         facts |= step_files.close_facts(ref, cards, call, result, answer)
     if call["kind"] == CARRY_OVER:
         facts |= carried_facts(call, result.number, answer)
+    if call["kind"] in (SET_MARK, GO_BACK):
+        facts |= mark_facts(call, result, answer)
     if call["kind"] == WITH_LISTS:
         facts |= limit_facts(call, result, answer) if call["limits"] is not None else set()
         facts |= piece_facts(call, result, answer)
@@ -310,11 +448,16 @@ def with_word(words, place, value) -> list:
     return words[:place] + [value] + words[place + 1:]
 
 
+def closed_after(day, days) -> int:
+    """The first date after a day that is not among the open days, 0 where there is none."""
+    return min((date for date in set(ref.open_days(EVERY_DAY)) - set(days) if date > day), default=0)
+
+
 def refused_carries(call):
     """What is other than in an accepted carry over: one cause of a refusal, then two."""
     saved, found = call["balances"], call["words"]
     days = ref.open_days(call["calendar"])
-    closed = min((date for date in ref.open_days(EVERY_DAY) if date > call["day"] and date not in days), default=0)
+    closed = closed_after(call["day"], days)
     late = {"calendar": with_word(call["calendar"], 0, 2 ** 31)}
     for name in CARRIED_LENGTHS:
         yield {name: call[name][:-1]}
@@ -347,17 +490,99 @@ def other_carries(call):
     yield from (good | changes for changes in refused_carries(good))
 
 
-def once_more(call):
-    """An accepted call with other arguments; of the carry overs those with par on loan."""
+def saved_mark(day, count, words) -> list:
+    """The words of a mark that is set, with these words of the balances."""
+    return [1, day, count] + [words.get(w, 0) for w in range(2 * step_files.REPO_AT)]
+
+
+def written(words, mark, changes) -> dict:
+    """A store with words of a mark changed."""
+    changed = list(words)
+    for word, value in changes.items():
+        changed[step_files.MARK_WORDS * (mark - 1) + word] = value
+    return {"words": changed}
+
+
+def refused_books(call):
+    """What is other than in a call with a mark that is taken: the lengths, the calendar or the book; one cause of a refusal, then two."""
+    days = ref.open_days(call["calendar"])
+    closed = closed_after(days[0], days)
+    late = {"calendar": with_word(call["calendar"], 0, 2 ** 31)}
+    for name in MARK_LENGTHS:
+        yield {name: call[name][:-1]}
+        yield {name: call[name] + [0]}
+    yield {"balances": call["balances"][:step_files.REPO_AT]}
+    yield late
+    yield from ({"day": day} for day in (closed, days[-1], 0))
+    last = len(call["balances"])
+    for place, par in ((1, ref.LARGEST_BALANCE + 1), (last - 2, ref.LARGEST_BALANCE + 1), (17, 1), (0, 1), (last - 1, 1)):
+        yield {"balances": with_word(call["balances"], place, par)}
+    yield late | {"balances": call["balances"][:-1]}
+    yield {"balances": call["balances"][:-1], "day": 0}
+    yield {"balances": call["balances"][:-1], "mark": 5}
+    yield late | {"day": 0}
+    yield late | {"mark": 5}
+    yield {"day": closed, "mark": 9}
+    yield from ({"mark": mark} for mark in (0, 5, 255, 257, 2 ** 16 + 2, 2 ** 32 - 1))
+    yield from ({"mark": 1, "words": (call["words"] + [0])[:words]} for words in (
+        0, step_files.MARK_WORDS, step_files.STORE_WORDS - 1, step_files.STORE_WORDS + 1))
+
+
+def refused_marks(call):
+    """What is other than in an accepted return: the words of its mark."""
+    words, mark = call["words"], call["mark"]
+    days = ref.open_days(call["calendar"])
+    closed = closed_after(days[0], days)
+    changes = [{0: n} for n in (0, 2, 257, 2 ** 32 + 1, 2 ** 64 - 1)] + [{2: n} for n in (2 ** 32, 2 ** 32 + 9, 2 ** 64 - 1)]
+    changes += [{1: n} for n in (closed, days[-1], 0, 2 ** 32 + mark_words(words, mark)[1])]
+    last = 3 + 2 * step_files.REPO_AT
+    changes += [{3 + 1: ref.LARGEST_BALANCE + 1}, {last - 2: ref.LARGEST_BALANCE + 1}, {3 + 17: 1}, {3: 1}, {last - 1: 1}]
+    for change in changes:
+        yield written(words, mark, change)
+    yield {"words": [0] * len(words)}
+    yield {"words": [0] * len(words), "day": closed}
+    yield {"words": [0] * len(words), "mark": 5}
+    yield {"words": [0] * (len(words) + 1)}
+
+
+def other_marks(call):
+    """A call with a mark that is taken, with four marks in the store and other words at their ends, for each mark and with other books; then
+    refused ones."""
+    days = ref.open_days(call["calendar"])
+    ends = end_places([0] * 2 * step_files.REPO_AT)
+    saved = ((days[0], 0, {18: 15_000, 4_114: 7}), (days[-2], ref.LARGEST_COUNT, {w: ref.LARGEST_BALANCE - w for w in ends}),
+             (call["day"], 5, {}), (days[len(days) // 2], 9, {1: ref.LARGEST_BALANCE, 4_098: 3}))
+    words = [word for book in saved for word in saved_mark(*book)]
+    present = {w: 77 + w for w in (*ends, 19, 4_115)}
+    good = dict(call, words=words, count=3, mark=1, balances=[present.get(w, 0) for w in range(2 * step_files.REPO_AT)])
+    for mark in range(1, 5):
+        yield dict(good, mark=mark)
+    yield dict(good, mark=2, day=days[0])
+    if call["kind"] == SET_MARK:
+        for day, count, pars in saved:
+            yield dict(good, mark=3, day=day, count=count, balances=[pars.get(w, 0) for w in range(len(good["balances"]))])
+        yield dict(good, mark=2, words=[w + 1 if w % 4_097 in (0, 1, 2, 3, 4_096) or w % step_files.MARK_WORDS < 4 else 0
+                                        for w in range(len(words))])
+    else:
+        yield dict(good, mark=2, words=[word for mark, book in enumerate(saved) for word in (
+            saved_mark(*book) if mark == 1 else [mark] + saved_mark(*book)[1:] if mark else with_word(saved_mark(*book), 1, 0))])
+        yield from (good | changes for changes in refused_marks(good))
+    yield from (good | changes for changes in refused_books(good))
+
+
+def once_more(call, is_first):
+    """An accepted call with other arguments; of the carry overs those with par on loan, of the calls with a mark the first of its kind."""
     if call["kind"] in (1, WITH_LISTS):
         yield from other_lists(call, ref.read_record(ref.TRANSFER, call["message"])[1])
     if call["kind"] == CARRY_OVER and any(call["balances"]):
         yield from other_carries(call)
+    if call["kind"] in (SET_MARK, GO_BACK) and is_first:
+        yield from other_marks(call)
 
 
 def argument_facts(call, result) -> set:
-    """What a call shows of limits, of pieces and of a saved book."""
-    return {fact for fact in shown(call, result) if fact[0] in ("limits", "pieces", "carried")}
+    """What a call shows of limits, of pieces, of a saved book and of a mark."""
+    return {fact for fact in shown(call, result) if fact[0] in ("limits", "pieces", "carried", "marked")}
 
 
 def candidates():
@@ -371,12 +596,13 @@ def candidates():
         yield call
         if make_calls.run(call).number:
             continue
-        if kind in ONE_BOOK and kind not in accepted:
-            accepted.add(kind)
+        is_first = kind not in accepted
+        accepted.add(kind)
+        if kind in ONE_BOOK and is_first:
             yield dict(call, balances=call["balances"][:step_files.REPO_AT])
             for name, lists in (("limits", step_files.BROKEN), ("pieces", step_files.BROKEN_PIECES)) if kind == WITH_LISTS else ():
                 yield from (dict(call, **{name: numbers}) for numbers in lists)
-        for again in once_more(call):
+        for again in once_more(call, is_first):
             more = argument_facts(again, make_calls.run(again)) - facts
             facts |= more
             if more:

@@ -8,12 +8,14 @@ import os
 import struct
 import sys
 
-CARDS = 8                       # the last of document 02's cards in force that changes an answer
-# The kinds of steps: the calls, as in files of calls, and what sets calendar and tables or the book.
-OPEN, TRANSFER, CLOSE, LENT_TRANSFER, CARRY_OVER = range(5)
-TABLES, BOOK = 128, 129
+CARDS = 9                       # the last of document 02's cards in force that changes an answer
+# The kinds of steps: the calls, as in files of calls, and what sets calendar and tables, the book, or words of the store.
+OPEN, TRANSFER, CLOSE, LENT_TRANSFER, CARRY_OVER, SET_MARK, GO_BACK = range(7)
+TABLES, BOOK, STORE = 128, 129, 130
 MODULUS = 4294967291
 REPO_AT = 4096                  # the first word of repos, and how many balances a book had before them
+MARK_WORDS = 8195               # how many words a mark has
+STORE_WORDS = 4 * MARK_WORDS    # how many words a store has
 # Date limits: the published ones, and lists that break one rule each: the length, the range, the order. In their order only MBS and annual
 # can be 0 alone, and only MBS and monthly above 16.
 PUBLISHED = [7, 6, 3, 2, 1]
@@ -313,7 +315,8 @@ class Direct:
 
 
 class Steps:
-    """The steps of a file, run by the reference as they are added: each on the book and balances that the last one left."""
+    """The steps of a file, run by the reference as they are added: each on the book, balances and store that the last one left. Behind the
+    store stands one word more."""
 
     def __init__(self, ref, rules):
         """The rules have the direct calls."""
@@ -321,6 +324,7 @@ class Steps:
         self.steps = []
         self.calendar, self.tables = [0] * 480, [0] * 1824
         self.book, self.balances = ref.Book(0, 0), [0] * rules.words
+        self.store = [0] * (STORE_WORDS + 1)
 
     def add(self, kind: int, name: str, message: bytes, room: int = 0, lent: bytes = b"") -> None:
         """A step, with the bytes of the lists that a call of its kind alone is lent behind it."""
@@ -336,6 +340,11 @@ class Steps:
     def set_book(self, day: int, count: int, balances) -> None:
         self.book, self.balances = self.ref.Book(day, count), list(balances)
         self.add(BOOK, "", struct.pack("<II", day, count) + balance_bytes(balances)[4:])
+
+    def set_store(self, words: dict) -> None:
+        for place, value in words.items():
+            self.store[place] = value
+        self.add(STORE, "", struct.pack("<I", len(words)) + b"".join(struct.pack("<IQ", *word) for word in words.items()))
 
     def done(self, result):
         self.book, self.balances = result.book, result.balances
@@ -369,6 +378,20 @@ class Steps:
         left += found[lent:]
         balances = [a ^ b for a, b in zip(left, found)] if number else left
         return self.done(self.ref.Result(number, book, 0, balances, b""))
+
+    def set_mark(self, name: str, mark: int, calendar_words: int = 480, lent: int = 2 * REPO_AT, store_words: int = STORE_WORDS):
+        """A mark set with this many words of the calendar, balances and words of the store."""
+        self.add(SET_MARK, name, struct.pack("<IIII", mark, calendar_words, lent, store_words))
+        number, self.store[:store_words] = self.rules.set_mark(self.calendar[:calendar_words], self.book, self.balances[:lent], mark,
+                                                               self.store[:store_words])
+        return self.ref.Result(number, self.book, 0, self.balances, b"")
+
+    def go_back(self, name: str, mark: int, calendar_words: int = 480, lent: int = 2 * REPO_AT, store_words: int = STORE_WORDS):
+        """A return to a mark, lent likewise."""
+        self.add(GO_BACK, name, struct.pack("<IIII", mark, calendar_words, lent, store_words))
+        number, book, balances = self.rules.go_back(self.calendar[:calendar_words], self.book, self.balances[:lent], mark,
+                                                    self.store[:store_words])
+        return self.done(self.ref.Result(number, book, 0, balances + self.balances[lent:], b""))
 
     def write(self, path: str) -> None:
         with open(path, "wb") as file:

@@ -2,14 +2,16 @@
 // An entry of the calls: the call in a byte (0 open, 1 transfer with ones as pieces, 2 close, 3 transfer that is lent lists); the number of
 // calendar words in four bytes and the words; the tables likewise; balances; day and count; the length of the message in four bytes and the
 // message; the claim buffer likewise; of a transfer that is lent lists the limits, or 4294967295 and no words in the form without them, and
-// the pieces. A carry over, 4, has the calendar; the saved balances; day and count; the balances that it is to write.
-// An entry of what they give: the number in two bytes; day, count and claims in four each; balances; the claim buffer, or the balances that a
-// carry over is to write.
+// the pieces. A carry over, 4, has the calendar; the saved balances; day and count; the balances that it is to write. A call that sets a
+// mark, 5, or returns to one, 6, has the calendar; balances; day and count; the store in the format of balances; the mark in four bytes.
+// An entry of what they give: the number in two bytes; day, count and claims in four each; balances; the claim buffer, the balances that a
+// carry over is to write, or the store.
 // Balances: how many words in four bytes, how many of them are not zero in four, and for each of these its place and its par.
 use crate::Lists;
 use crate::byte_at;
 use crate::half_at;
 use crate::is_carry_over;
+use crate::is_mark;
 use crate::lists_at;
 use crate::past_pairs;
 use crate::past_words;
@@ -17,7 +19,7 @@ use crate::plus;
 use crate::word_at;
 
 // A call: where its parts stand and how long they are. `words` is a second run of words behind the balances: those that a carry over is to
-// write. A part that a call is not lent is empty, at the end of the file.
+// write, or a store. A part that a call is not lent is empty, at the end of the file; the mark is 0 then.
 pub struct Entry {
     pub kind: u8,
     pub calendar: usize,
@@ -34,6 +36,7 @@ pub struct Entry {
     pub buffer_length: usize,
     pub words: usize,
     pub word_count: usize,
+    pub mark: u32,
     pub lists: Lists,
 }
 
@@ -62,12 +65,37 @@ fn past_bytes(s: &[u8], at: usize) -> usize {
     plus(plus(at, 4), word_at(s, at) as usize)
 }
 
-// The carry over at a place.
-fn carry_over_at(s: &[u8], at: usize) -> Entry {
+// Whether calls of a kind are lent a second run of words in place of tables.
+fn has_words(kind: u8) -> bool {
+    if is_carry_over(kind) {
+        return true;
+    }
+    is_mark(kind)
+}
+
+// The mark of a call of a kind at a place.
+fn mark_at(kind: u8, s: &[u8], at: usize) -> u32 {
+    if is_mark(kind) {
+        return word_at(s, at);
+    }
+    0
+}
+
+// The place behind the mark of a call of a kind.
+fn past_mark(kind: u8, at: usize) -> usize {
+    if is_mark(kind) {
+        return plus(at, 4);
+    }
+    at
+}
+
+// The call with a second run of words at a place.
+fn words_call_at(s: &[u8], at: usize) -> Entry {
     let calendar = plus(at, 1);
     let balances = past_words(plus(calendar, 4), word_at(s, calendar));
     let book = past_balances(s, balances);
     let words = plus(book, 8);
+    let mark = past_balances(s, words);
     let kind = byte_at(s, at);
     Entry {
         kind,
@@ -85,11 +113,12 @@ fn carry_over_at(s: &[u8], at: usize) -> Entry {
         buffer_length: 0,
         words,
         word_count: word_at(s, words) as usize,
-        lists: lists_at(kind, s, past_balances(s, words)),
+        mark: mark_at(kind, s, mark),
+        lists: lists_at(kind, s, past_mark(kind, mark)),
     }
 }
 
-// The call at a place that is no carry over.
+// The call with tables at a place.
 fn call_at(s: &[u8], at: usize) -> Entry {
     let calendar = plus(at, 1);
     let tables = past_words(plus(calendar, 4), word_at(s, calendar));
@@ -114,19 +143,20 @@ fn call_at(s: &[u8], at: usize) -> Entry {
         buffer_length: word_at(s, buffer) as usize,
         words: s.len(),
         word_count: 0,
+        mark: 0,
         lists: lists_at(kind, s, past_bytes(s, buffer)),
     }
 }
 
 // The call at a place.
 pub fn entry_at(s: &[u8], at: usize) -> Entry {
-    if is_carry_over(byte_at(s, at)) {
-        return carry_over_at(s, at);
+    if has_words(byte_at(s, at)) {
+        return words_call_at(s, at);
     }
     call_at(s, at)
 }
 
-// What the carry over at a place should give.
+// What the call with a second run of words at a place should give.
 fn expected_words_at(s: &[u8], at: usize) -> Expected {
     let balances = plus(at, 14);
     let words = past_balances(s, balances);
@@ -145,7 +175,7 @@ fn expected_words_at(s: &[u8], at: usize) -> Expected {
     }
 }
 
-// What the call at a place that is no carry over should give.
+// What the call with tables at a place should give.
 fn expected_claims_at(s: &[u8], at: usize) -> Expected {
     let balances = plus(at, 14);
     let buffer = past_balances(s, balances);
@@ -166,7 +196,7 @@ fn expected_claims_at(s: &[u8], at: usize) -> Expected {
 
 // What the call of a kind should give, at a place.
 pub fn expected_at(kind: u8, s: &[u8], at: usize) -> Expected {
-    if is_carry_over(kind) {
+    if has_words(kind) {
         return expected_words_at(s, at);
     }
     expected_claims_at(s, at)

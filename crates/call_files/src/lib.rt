@@ -17,6 +17,12 @@ const LENT_TRANSFER: u8 = 3;
 // The kind of a carry over.
 const CARRY_OVER: u8 = 4;
 
+// The kind that sets a mark.
+const SET_MARK: u8 = 5;
+
+// The kind that returns to one.
+const RETURN_TO_MARK: u8 = 6;
+
 // The length that stands for limits that are not lent.
 const NOT_LENT: u32 = 4294967295;
 
@@ -228,6 +234,14 @@ pub fn is_carry_over(kind: u8) -> bool {
     kind == CARRY_OVER
 }
 
+// Whether a kind sets a mark or returns to one.
+pub fn is_mark(kind: u8) -> bool {
+    if kind == SET_MARK {
+        return true;
+    }
+    kind == RETURN_TO_MARK
+}
+
 // The list at a place.
 fn numbers_at(s: &[u8], at: usize) -> Numbers {
     let words = word_at(s, at);
@@ -340,7 +354,26 @@ fn plain_transfer(
     transfers::transfer(calendar, tables, &ones, book, balances, message, claims)
 }
 
-// Makes a call that is no carry over: 0 opens a book on the day of the one given, 1 is a transfer with ones as pieces, 3 a transfer that is
+// Sets a mark of a store, with the book as it was given, or returns to it.
+pub fn mark_call(
+    kind: u8,
+    calendar: &[u32],
+    book: Book,
+    balances: &mut [u64],
+    store: &mut [u64],
+    mark: u32,
+) -> Done {
+    if kind == SET_MARK {
+        return Done {
+            number: marks::set_mark(calendar, book, balances, store, mark),
+            book,
+            claims: 0,
+        };
+    }
+    marks::return_to_mark(calendar, book, balances, store, mark)
+}
+
+// Makes a call that is lent tables: 0 opens a book on the day of the one given, 1 is a transfer with ones as pieces, 3 a transfer that is
 // lent lists of the file, any other a close.
 pub fn call(
     kind: u8,

@@ -1,11 +1,13 @@
-// Files of steps: the calls of a run, with the tables and the saved books that they start from.
+// Files of steps: the calls of a run, with the tables, the saved books and the words of a store that they start from.
 // A file is its number of steps in four bytes, then the steps. A step is its kind in a byte, the length of its name in a byte, the
 // name, the length of its message in four bytes, the message, and the length of its claim buffer in four bytes. Kinds: 0 opens a book
 // (message: the day), 1 is a transfer with ones as pieces, 2 a close, 3 a transfer that is lent lists (behind the length of its claim buffer
 // the number of limits and each of them, in four bytes, or 4294967295 and none in the form without them; then the pieces), 4 carries a saved
 // book over (message: day, count, how many words of the calendar and how many balances it is lent, how many balances are saved, how many of
-// these are not zero, and their places and pars as in kind 129), 128 sets calendar and tables (message: their words), 129 sets the book
-// (message: day, count, how many balances are not zero, and for each of these its place in four bytes and its par in eight).
+// these are not zero, and their places and pars as in kind 129), 5 sets a mark and 6 returns to one (message: the mark, and how many words of
+// the calendar, balances and words of the store it is lent), 128 sets calendar and tables (message: their words), 129 sets the book
+// (message: day, count, how many balances are not zero, and for each of these its place in four bytes and its par in eight), 130 writes words
+// of the store (message: how many, and for each of these its place in four bytes and its value in eight).
 use crate::Lists;
 use crate::byte_at;
 use crate::call;
@@ -14,7 +16,9 @@ use crate::fill;
 use crate::fitting_balances;
 use crate::fitting_words;
 use crate::is_carry_over;
+use crate::is_mark;
 use crate::lists_at;
+use crate::mark_call;
 use crate::pairs_at;
 use crate::part;
 use crate::plus;
@@ -36,6 +40,9 @@ pub struct Step {
 
 // The first kind that is no call: it sets calendar and tables.
 const SET_TABLES: u8 = 128;
+
+// The kind that writes words of the store.
+const SET_STORE: u8 = 130;
 
 // The step at a place.
 pub fn step_at(s: &[u8], at: usize) -> Step {
@@ -60,6 +67,16 @@ pub fn step_at(s: &[u8], at: usize) -> Step {
 // Whether a step is a call.
 pub fn is_call(step: Step) -> bool {
     step.kind < SET_TABLES
+}
+
+// Whether a step sets a mark or returns to one.
+pub fn has_mark(step: Step) -> bool {
+    is_mark(step.kind)
+}
+
+// Whether a step writes words of the store.
+pub fn is_store(step: Step) -> bool {
+    step.kind == SET_STORE
 }
 
 // The name of a step.
@@ -88,7 +105,13 @@ fn set_book(message: &[u8], balances: &mut [u64; 8192]) -> Book {
     book_in(message)
 }
 
-// Takes a step that is no call and answers the book after it.
+// Takes a step that writes words of the store.
+pub fn set_store(s: &[u8], step: Step, store: &mut [u64]) {
+    let message = part(s, step.message, step.message_length);
+    pairs_at(message, 4, word_at(message, 0), store);
+}
+
+// Takes a step that sets calendar and tables or the book, and answers the book after it.
 pub fn set(
     s: &[u8],
     step: Step,
@@ -178,7 +201,42 @@ fn carry(message: &[u8], calendar: &[u32], balances: &mut [u64]) -> Done {
     done
 }
 
-// Makes the call of a step. Before it the claim buffer holds the remainders of its places by 251.
+// Sets the mark of a message or returns to it, lent the parts of the buffers that it names.
+fn make_lent_mark(
+    kind: u8,
+    message: &[u8],
+    calendar: &[u32],
+    book: Book,
+    balances: &mut [u64],
+    store: &mut [u64],
+) -> Done {
+    let c = fitting_words(word_at(message, 4) as usize, calendar);
+    let b = fitting_balances(word_at(message, 8) as usize, balances);
+    let n = fitting_balances(word_at(message, 12) as usize, store);
+    mark_call(
+        kind,
+        &calendar[..c],
+        book,
+        &mut balances[..b],
+        &mut store[..n],
+        word_at(message, 0),
+    )
+}
+
+// Sets the mark of a step or returns to it.
+pub fn make_mark(
+    s: &[u8],
+    step: Step,
+    calendar: &[u32],
+    book: Book,
+    balances: &mut [u64],
+    store: &mut [u64],
+) -> Done {
+    let message = part(s, step.message, step.message_length);
+    make_lent_mark(step.kind, message, calendar, book, balances, store)
+}
+
+// Makes the call of a step without a mark. Before it the claim buffer holds the remainders of its places by 251.
 pub fn make(
     s: &[u8],
     step: Step,

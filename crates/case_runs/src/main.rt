@@ -1,11 +1,12 @@
 // Runs the steps of case_runs.in: document 01's cases that no theorem states, the edges of interim claims, of pools that pay late, of repo
-// tracking, of date limits, of minimum pieces, of days before the 2023 memo and of saved books that are carried over, and the examples of
-// fail, interim accounting, repo and securities lending tracking of source document 001 (Clearing Memo 278), Attachment II, and of fail
-// tracking of source document 004 (Clearing Memo 219), Attachment 3.
+// tracking, of date limits, of minimum pieces, of days before the 2023 memo, of saved books that are carried over and of marks, and the
+// examples of fail, interim accounting, repo and securities lending tracking of source document 001 (Clearing Memo 278), Attachment II, and of
+// fail tracking of source document 004 (Clearing Memo 219), Attachment 3.
 // It writes a line for each call: its name, number, day, count and claims; under it a line for each claim (type, outcome, payer,
 // payee, security, row, transfer number, interest, principal, release date, slot) and for each balance that is not zero (on loan or on
-// repo, security, lender, borrower, par). Before a carry over each word of its balances holds a mark; under a refused one stand the words
-// that it changed.
+// repo, security, lender, borrower, par). Before a carry over each word of its balances holds a stamp; under a refused one stand the words
+// that it changed. Under a call that sets a mark or returns to one stands a line with the checksum of all words of the store, then one for
+// each mark that is set: its number, day and count.
 use book::Book;
 use book::Done;
 use call_files::print;
@@ -93,7 +94,49 @@ fn print_call(name: &[u8], done: Done, claims: &[u8], balances: &[u64]) {
     print_balances(balances);
 }
 
-// Makes a call, writes its lines and answers the book after it.
+// The word at a place of a store; behind its end 0.
+fn word_of(store: &[u64], at: usize) -> u64 {
+    if at < store.len() { store[at] } else { 0 }
+}
+
+// Writes the line of the mark with a number that begins at a place, where it is set.
+fn print_mark(mark: u64, store: &[u64], at: usize) {
+    if word_of(store, at) == 1 {
+        print(b" mark");
+        print_field(mark);
+        print_field(word_of(store, call_files::plus(at, 1)));
+        print_field(word_of(store, call_files::plus(at, 2)));
+        call_files::print_end();
+    }
+}
+
+// Writes the lines of the store.
+fn print_store(store: &[u64]) {
+    print(b" store");
+    print_field(call_files::balance_sum(store));
+    call_files::print_end();
+    print_mark(1, store, 0);
+    print_mark(2, store, 8195);
+    print_mark(3, store, 16390);
+    print_mark(4, store, 24585);
+}
+
+// Sets a mark or returns to one, writes the call's lines and those of the store, and answers the book after it.
+fn run_mark(
+    s: &[u8],
+    step: Step,
+    calendar: &[u32],
+    book: Book,
+    balances: &mut [u64],
+    store: &mut [u64],
+) -> Book {
+    let done = steps::make_mark(s, step, calendar, book, balances, store);
+    print_call(steps::name(s, step), done, b"", balances);
+    print_store(store);
+    done.book
+}
+
+// Makes a call without a mark, writes its lines and answers the book after it.
 fn run_call(
     s: &[u8],
     step: Step,
@@ -117,7 +160,15 @@ fn take_step(
     book: Book,
     balances: &mut [u64; 8192],
     claims: &mut [u8],
+    store: &mut [u64],
 ) -> Book {
+    if steps::has_mark(step) {
+        return run_mark(s, step, calendar, book, balances, store);
+    }
+    if steps::is_store(step) {
+        steps::set_store(s, step, store);
+        return book;
+    }
     if !steps::is_call(step) {
         return steps::set(s, step, calendar, tables, book, balances);
     }
@@ -133,32 +184,53 @@ fn take_step(
     )
 }
 
-// Takes the steps of a file one after another, each on the book and balances that the last one left.
+// Takes the steps of a file one after another, each on the book, balances and store that the last one left.
 fn take_steps(
     s: &[u8],
     calendar: &mut [u32; 480],
     tables: &mut [u32; 1824],
     balances: &mut [u64; 8192],
     claims: &mut [u8; 4096],
+    store: &mut [u64],
 ) {
     let mut book = Book { day: 0, count: 0 };
     let mut at: usize = 4;
     let mut left = call_files::word_at(s, 0);
     while 0 < left {
         let step = steps::step_at(s, at);
-        book = take_step(s, step, calendar, tables, book, balances, claims);
+        book = take_step(s, step, calendar, tables, book, balances, claims, store);
         at = step.lists.next;
         left -= 1;
     }
 }
 
-// Takes the steps of a file on tables and balances of zeros.
+// The same with a store and one word behind it. The array is handed on by reference first, so that its elements stay out of the proofs.
+fn take_all(
+    s: &[u8],
+    calendar: &mut [u32; 480],
+    tables: &mut [u32; 1824],
+    balances: &mut [u64; 8192],
+    claims: &mut [u8; 4096],
+    store: &mut [u64; 32781],
+) {
+    take_steps(s, calendar, tables, balances, claims, store);
+}
+
+// Takes the steps of a file on tables, balances and a store of zeros.
 fn run(s: &[u8]) {
     let mut calendar = [0u32; 480];
     let mut tables = [0u32; 1824];
     let mut balances = [0u64; 8192];
     let mut claims = [0u8; 4096];
-    take_steps(s, &mut calendar, &mut tables, &mut balances, &mut claims);
+    let mut store = [0u64; 32781];
+    take_all(
+        s,
+        &mut calendar,
+        &mut tables,
+        &mut balances,
+        &mut claims,
+        &mut store,
+    );
 }
 
 // Reads the file into a buffer and takes its steps.
@@ -167,12 +239,12 @@ fn run_file(buffer: &mut [u8]) {
     run(&buffer[..n]);
 }
 
-// The same with a whole buffer. The array is handed on by reference first, so that its elements stay out of the proofs.
-fn run_whole(buffer: &mut [u8; 524288]) {
+// The same with a whole buffer, handed on likewise.
+fn run_whole(buffer: &mut [u8; 786432]) {
     run_file(buffer);
 }
 
 fn main() {
-    let mut buffer = [0u8; 524288];
+    let mut buffer = [0u8; 786432];
     run_whole(&mut buffer);
 }

@@ -83,7 +83,7 @@ fn load(
     call_files::entries::balances_at(s, call.words, words);
 }
 
-// Makes a call on its arguments. The balances of a carry over are the saved ones; it writes the words.
+// Makes a call on its arguments. The balances of a carry over are the saved ones; it writes the words. The words of a mark are the store.
 fn make(
     s: &[u8],
     call: Entry,
@@ -100,6 +100,9 @@ fn make(
     };
     if call_files::is_carry_over(call.kind) {
         return carry_over::carry_over(calendar, book, balances, words);
+    }
+    if call_files::is_mark(call.kind) {
+        return call_files::mark_call(call.kind, calendar, book, balances, words, call.mark);
     }
     call_files::call(
         call.kind,
@@ -251,8 +254,8 @@ fn try_all(
     tables: &mut [u32; 1856],
     balances: &mut [u64; 8224],
     claims: &mut [u8; 16384],
-    words: &mut [u64; 8224],
-    left: &mut [u64; 8224],
+    words: &mut [u64; 32812],
+    left: &mut [u64; 32812],
 ) -> Totals {
     let mut totals = totals::none();
     let mut at: usize = 0;
@@ -291,8 +294,8 @@ fn try_file(s: &[u8], t: &[u8]) -> Totals {
     let mut tables = [0u32; 1856];
     let mut balances = [0u64; 8224];
     let mut claims = [0u8; 16384];
-    let mut words = [0u64; 8224];
-    let mut left = [0u64; 8224];
+    let mut words = [0u64; 32812];
+    let mut left = [0u64; 32812];
     try_all(
         s,
         t,
@@ -313,13 +316,13 @@ fn try_stored(calls: &mut [u8], expected: &mut [u8]) {
 }
 
 // The same with whole buffers. The arrays are handed on by reference first, so that their elements stay out of the proofs.
-fn try_whole(calls: &mut [u8; 2097152], expected: &mut [u8; 262144]) {
+fn try_whole(calls: &mut [u8; 2621440], expected: &mut [u8; 262144]) {
     try_stored(calls, expected);
 }
 
 // Tries the stored calls and writes how many agree.
 pub fn try_calls() {
-    let mut calls = [0u8; 2097152];
+    let mut calls = [0u8; 2621440];
     let mut expected = [0u8; 262144];
     try_whole(&mut calls, &mut expected);
 }

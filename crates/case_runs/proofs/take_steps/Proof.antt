@@ -1,13 +1,15 @@
 -- `take_steps` is safe and ends: each turn leaves one step less.
+use mathlib.Core.Path.{_≡_}
+use lib.ListN.{length}
 use borrow.Author.Needs.{needs}
 use Rattle.case_runs.proofs.take_steps.Statement.{statement}
 use Rattle.case_runs.proofs.take_steps.Tie as tie
 
 abbrev Inv-loop : tie.InvT-loop
-Inv-loop s calendar₀ tables₀ balances₀ claims₀ book₀ at₀ left₀ calendar tables balances claims book at left = Unit {0}
+Inv-loop s calendar₀ tables₀ balances₀ claims₀ store₀ book₀ at₀ left₀ calendar tables balances claims store book at left = length store ≡ length store₀
 
 abbrev μ-loop : tie.MeasureT-loop
-μ-loop s calendar₀ tables₀ balances₀ claims₀ book₀ at₀ left₀ calendar tables balances claims book at left = left
+μ-loop s calendar₀ tables₀ balances₀ claims₀ store₀ book₀ at₀ left₀ calendar tables balances claims store book at left = left
 
 word-at-requires : tie.Need-word-at-requires Inv-loop μ-loop
 word-at-requires c κs = search needs
@@ -30,6 +32,9 @@ loop-less c = search needs
 loop-again : tie.Need-loop-again Inv-loop μ-loop
 loop-again c = search needs
 
+same-length : tie.Need-same-length Inv-loop μ-loop
+same-length c = search needs
+
 returns : tie.Need-returns Inv-loop μ-loop
 returns c = search needs
 
@@ -46,4 +51,5 @@ take-steps-spec =
     sub-left
     loop-less
     loop-again
+    same-length
     returns)

@@ -6,10 +6,10 @@ use Rattle.extremes.proofs.take_steps.Statement.{statement}
 use Rattle.extremes.proofs.take_steps.Tie as tie
 
 abbrev Inv-loop : tie.InvT-loop
-Inv-loop s calendar₀ tables₀ balances₀ claims₀ book₀ at₀ left₀ calendar tables balances claims book at left = length claims ≡ length claims₀
+Inv-loop s calendar₀ tables₀ balances₀ claims₀ store₀ book₀ at₀ left₀ calendar tables balances claims store book at left = (length claims ≡ length claims₀) × (length store ≡ length store₀)
 
 abbrev μ-loop : tie.MeasureT-loop
-μ-loop s calendar₀ tables₀ balances₀ claims₀ book₀ at₀ left₀ calendar tables balances claims book at left = left
+μ-loop s calendar₀ tables₀ balances₀ claims₀ store₀ book₀ at₀ left₀ calendar tables balances claims store book at left = left
 
 word-at-requires : tie.Need-word-at-requires Inv-loop μ-loop
 word-at-requires c κs = search needs
@@ -35,6 +35,9 @@ loop-again c = search needs
 same-length : tie.Need-same-length Inv-loop μ-loop
 same-length c = search needs
 
+same-length-2 : tie.Need-same-length-2 Inv-loop μ-loop
+same-length-2 c = search needs
+
 returns : tie.Need-returns Inv-loop μ-loop
 returns c = search needs
 
@@ -52,4 +55,5 @@ take-steps-spec =
     loop-less
     loop-again
     same-length
+    same-length-2
     returns)
