@@ -12,12 +12,14 @@ use Rattle.book.specs.declared.Done.{Done}
 use Rattle.history.specs.Calls.{Call}
 use Rattle.history.specs.Causes.{openingNumber}
 use Rattle.history.specs.Results.{Run, left, Opened, leftOpen, openedFor, opened, runBy, runFrom}
-use Rattle.history.specs.Ledger.{started, judged}
+use Rattle.history.specs.Ledger.{started, bookOf, balancesOf, judged}
 use Rattle.history.specs.Statement.{AgreesWithLedger}
+use Rattle.history.specs.Continuation.{GoesOn}
 use Rattle.history.proofs.StaysSound.{opened-sound}
 use Rattle.history.proofs.Theorem.{every-history}
+use Rattle.history.proofs.Continuation.{every-continuation}
 use Rattle.marks.specs.Marks.{isMark, markIn, isSet}
-use Rattle.marks.specs.Trials.{State, Turn, worked, markSet, wentBack, after, afterAll, AllKeep, Past, Kept, unset, ended, Histories, begun, keptAt, takenUp, followed, followedAll, isEnded, mayReturn, AllSpoken, NoneSet, EveryUnsetStore, returnAnswer, AllAnswer, along, AtHistory, EveryTrial, Leaves, BringsBack, EveryReturn, Step, work, mark, back, turnOf, turnsOf, EveryListIsATrial}
+use Rattle.marks.specs.Trials.{State, Turn, worked, markSet, wentBack, after, afterAll, AllKeep, Past, Kept, unset, ended, Histories, begun, keptAt, takenUp, followed, followedAll, isEnded, mayReturn, AllSpoken, NoneSet, EveryUnsetStore, returnAnswer, AllAnswer, along, AtHistory, EveryTrial, EveryLaterTrial, Leaves, BringsBack, EveryReturn, Step, work, mark, back, turnOf, turnsOf, EveryListIsATrial}
 use Rattle.marks.proofs.Sound.{Good}
 use Rattle.marks.proofs.Turns.{Stands, step}
 
@@ -104,6 +106,13 @@ module _ (calendar tables : List ℕ) (start : Opened) (first : List ℕ) (good 
   before-turns (t ∷ before) k number marks between done taken m l s h a e y =
       before-turns before k number marks between done taken m l (after s t) (followed h t) (step calendar tables start first good s h t a (e .0) (y .0) .1) (e .1) (y .1)
 
+-- ---- where a trial begins
+
+begins : (calendar tables : List ℕ) (start : Opened) (store : List ℕ) (good : Good calendar tables (start .book) (start .balances)) → length store ≡ 32780
+    → Stands calendar tables start store good (record { book = start .book; balances = start .balances; store = store }) begun
+unfolding along runFrom runBy begun
+begins calendar tables start store good l = record { run = refl; words = l; marks = λ k m. refl; outside = λ k m. refl }
+
 -- ---- behind an accepted opening
 
 opening-accepted : (balances : List ℕ) (day n : ℕ) → openedFor n balances day .number ≡ 0 → n ≡ 0
@@ -135,14 +144,15 @@ module _ (calendar tables balances : List ℕ) (day : ℕ) (opening : Done) (cle
   first = record { book = opening .book; balances = cleared; store = store }
 
   stands : Stands calendar tables start store good first begun
-  unfolding leftOpen along runFrom runBy begun
+  unfolding leftOpen
   stands =
-      record {
-        run = ap (λ (o : Opened). record { answers = []; book = o .book; balances = o .balances }) e;
-        words = l;
-        marks = λ k m. refl;
-        outside = λ k m. refl;
-      }
+      subst (λ (o : Opened). Stands calendar tables start store good (record { book = o .book; balances = o .balances; store = store }) begun) (sym e)
+      (begins calendar tables start store good l)
+
+-- what a list of turns gives
+trial-at : (calendar tables : List ℕ) (start : Opened) (first : List ℕ) (good : Good calendar tables (start .book) (start .balances)) (s : State) (h : Histories)
+    → Stands calendar tables start first good s h → AtHistory calendar tables start first s h
+trial-at calendar tables start first good s h a = record { run = a .run; words = a .words; marks = a .marks }
 
 pub every-trial : EveryTrial
 every-trial calendar tables balances day opening cleared e z store l turns all spoken =
@@ -150,22 +160,34 @@ every-trial calendar tables balances day opening cleared e z store l turns all s
     let a = stands calendar tables balances day opening cleared e z store l in
     let s : State = record { book = opening .book; balances = cleared; store = store } in
     let o = opened calendar tables balances day in
-    let r = steps calendar tables o store g turns s begun a all spoken in (
+    let r = steps calendar tables o store g turns s begun a all spoken in
+    let calls = followedAll begun turns .current .calls in (
       r .0,
-      record {
-        run = r .1 .run;
-        agrees = subst (λ (x : Run). AgreesWithLedger calendar tables day (followedAll begun turns .current .calls) x
-            (judged calendar tables (started day) (followedAll begun turns .current .calls))) (sym (r .1 .run))
-            (every-history calendar tables balances day (accepted calendar tables balances day opening cleared e z store l) (followedAll begun turns .current .calls));
-        words = r .1 .words;
-        marks = r .1 .marks;
-      },
+      trial-at calendar tables o store g _ _ (r .1),
+      subst (λ (x : Run). AgreesWithLedger calendar tables day calls x (judged calendar tables (started day) calls)) (sym (r .1 .run))
+          (every-history calendar tables balances day (accepted calendar tables balances day opening cleared e z store l) calls),
+    )
+
+pub every-later-trial : EveryLaterTrial
+unfolding bookOf
+every-later-trial calendar tables before k z c store l turns all spoken =
+    let o : Opened = record { number = 0; book = bookOf before; balances = balancesOf before } in
+    let g : Good calendar tables (o .book) (o .balances) = record { sound = z; counted = c } in
+    let s : State = record { book = bookOf before; balances = balancesOf before; store = store } in
+    let a : Stands calendar tables o store g s begun = begins calendar tables o store g l in
+    let r = steps calendar tables o store g turns s begun a all spoken in
+    let calls = followedAll begun turns .current .calls in (
+      r .0,
+      trial-at calendar tables o store g _ _ (r .1),
+      subst (λ (x : Run). GoesOn calendar tables before calls x (judged calendar tables before calls)) (sym (r .1 .run))
+          (unfold runFrom in every-continuation calendar tables before k calls),
     )
 
 pub every-return : EveryReturn
-every-return calendar tables balances day opening cleared e z store l before k number marks between done taken m leaves all spoken =
-    before-turns calendar tables (opened calendar tables balances day) store (good calendar tables balances day opening cleared e z store l) before k number marks between done taken m leaves
-    (record { book = opening .book; balances = cleared; store = store }) begun (stands calendar tables balances day opening cleared e z store l) all spoken
+every-return calendar tables s z c l before k number marks between done taken m leaves all spoken =
+    let o : Opened = record { number = 0; book = s .book; balances = s .balances } in
+    let g : Good calendar tables (o .book) (o .balances) = record { sound = z; counted = c } in
+    before-turns calendar tables o (s .store) g before k number marks between done taken m leaves s begun (begins calendar tables o (s .store) g l) all spoken
 
 -- ---- every list of steps, and stores without a set mark
 

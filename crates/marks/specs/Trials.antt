@@ -1,24 +1,29 @@
--- Trials: lists of transfers, closes, marks set and returns to marks, on a freshly opened book and any store of the right length, as a caller
--- makes them. Each call keeps its contract on the book, balances and store that the last one left, and nobody else writes these. Beside the
--- trial run its histories: the calls since the opening with the answers handed out to them, and for each mark the history that ended at it.
+-- Trials: lists of transfers, closes, marks set and returns to marks, on a freshly opened book, or one that goes on from a sound ledger, and
+-- any store of the right length, as a caller makes them. Each call keeps its contract on the book, balances and store that the last one left,
+-- and nobody else writes these. Beside the trial run its histories: the calls since its start with the answers handed out to them, and for
+-- each mark the history that ended at it.
 -- A transfer or a close goes on with the current history, a mark keeps it, a return takes the kept one up again; what was answered between
 -- the mark and the return is dropped.
 -- Then after every trial the day, count, balances and answers along the current history are those of its calls, made one after another on
--- what the opening left, and with them the par between two accounts, what the records pay and what is owed. Setting a mark is accepted, and
+-- what the trial began with, and so are the par between two accounts, what the records pay and what is owed. Setting a mark is accepted, and
 -- so is going back to a mark that the trial has set; outside 1 to 4 both get 16, and going back to an unset mark gets 17. Marks that the
 -- trial has not set are as they were.
 use mathlib.Core.Path.{_≡_}
 use mathlib.Core.Bool.{Bool, true, false, cond, not, _&&_, _||_}
 use mathlib.Core.List.{List, [], _∷_, _++_}
-use Prim.Native.Nat.{ℕ}
+use Prim.Native.Nat.{ℕ, _≤_}
 use lib.Dec.{eqb}
 use lib.ListN.{length}
+use Rattle.lists.specs.First.{firstOf}
 use Rattle.book.specs.declared.Book.{Book}
 use Rattle.book.specs.declared.Done.{Done}
+use Rattle.book.specs.Soundness.{bookCauses}
 use Rattle.history.specs.Calls.{Call}
+use Rattle.history.specs.Causes.{largestCount}
 use Rattle.history.specs.Results.{Answer, Run, Gives, left, result, Opened, leftOpen, opened, runFrom}
-use Rattle.history.specs.Ledger.{started, judged}
+use Rattle.history.specs.Ledger.{Ledger, started, transfers, bookOf, balancesOf, judged}
 use Rattle.history.specs.Statement.{AgreesWithLedger}
+use Rattle.history.specs.Continuation.{SoundLedger, GoesOn}
 use Rattle.marks.specs.Marks.{storeWords, isMark, markIn, isSet, wordsFor, leftMark, marked, returned}
 
 -- ---- a trial
@@ -61,7 +66,7 @@ AllKeep calendar tables s (t ∷ turns) = Keeps calendar tables s t × AllKeep c
 
 -- ---- its histories
 
--- A history: its calls since the opening, and what was answered to each.
+-- A history: its calls since the start of the trial, and what was answered to each.
 pub record Past : Type 0 where
   pub calls : List Call
   pub answers : List Answer
@@ -158,26 +163,41 @@ Holds calendar tables start first unset words = words ≡ first
 Holds calendar tables start first (ended p) words =
     let r = runFrom calendar tables start (p .calls) in (words ≡ wordsFor (r .book) (r .balances)) × (p .answers ≡ r .answers)
 
--- Where a trial stands that began with the store first.
-pub record AtHistory (calendar tables : List ℕ) (day : ℕ) (start : Opened) (first : List ℕ) (s : State) (h : Histories) : Type 0 where
-  -- Answers, book and balances are those of the history's calls on what the opening left.
+-- Where a trial stands that began on start and with the store first: answers, book and balances are those of the current history's calls on
+-- start, and the store holds the histories that ended at the marks.
+pub record AtHistory (calendar tables : List ℕ) (start : Opened) (first : List ℕ) (s : State) (h : Histories) : Type 0 where
   pub run : along (h .current) s ≡ runFrom calendar tables start (h .current .calls)
-  -- They are what the ledger of these calls says: par lent, what the records pay, what the history owes.
-  pub agrees : AgreesWithLedger calendar tables day (h .current .calls) (along (h .current) s)
-      (judged calendar tables (started day) (h .current .calls))
   pub words : length (s .store) ≡ storeWords
   pub marks : (k : ℕ) → isMark k ≡ true → Holds calendar tables start (markIn first k) (h .marks k) (markIn (s .store) k)
 
--- Every trial behind an opening that keeps its contract and is accepted. It may end anywhere, so this holds after each turn, and the transfers
+-- Every trial behind an opening that keeps its contract and is accepted: answers, book and balances are what the ledger of the current history's
+-- calls says, par lent, what the records pay and what the history owes. It may end anywhere, so this holds after each turn, and the transfers
 -- and closes behind a return are calls of the history that ended at the mark.
 abbrev pub EveryTrial : Type 0
 EveryTrial = (calendar tables balances : List ℕ) (day : ℕ) (opening : Done) (cleared : List ℕ)
     → leftOpen opening cleared ≡ opened calendar tables balances day → opening .number ≡ 0
     → (store : List ℕ) → length store ≡ storeWords → (turns : List Turn)
     → (let s : State = record { book = opening .book; balances = cleared; store = store } in
+    let last = afterAll s turns in
+    let h = followedAll begun turns in
     AllKeep calendar tables s turns → AllSpoken store begun turns
     → AllAnswer begun turns
-    × AtHistory calendar tables day (opened calendar tables balances day) store (afterAll s turns) (followedAll begun turns))
+    × AtHistory calendar tables (opened calendar tables balances day) store last h
+    × AgreesWithLedger calendar tables day (h .current .calls) (along (h .current) last) (judged calendar tables (started day) (h .current .calls)))
+
+-- So on a book that has gone on for long, with any calendar and tables: on the book and balances of a sound ledger that numbers 1 to 4 do not
+-- refuse, with a count of 32 bits. The current history goes on from that ledger.
+abbrev pub EveryLaterTrial : Type 0
+EveryLaterTrial = (calendar tables : List ℕ) (before : Ledger) → SoundLedger before
+    → firstOf (bookCauses calendar tables (before .day) (balancesOf before)) ≡ 0 → transfers (before .entries) ≤ largestCount
+    → (store : List ℕ) → length store ≡ storeWords → (turns : List Turn)
+    → (let s : State = record { book = bookOf before; balances = balancesOf before; store = store } in
+    let last = afterAll s turns in
+    let h = followedAll begun turns in
+    AllKeep calendar tables s turns → AllSpoken store begun turns
+    → AllAnswer begun turns
+    × AtHistory calendar tables (record { number = 0; book = bookOf before; balances = balancesOf before }) store last h
+    × GoesOn calendar tables before (h .current .calls) (along (h .current) last) (judged calendar tables before (h .current .calls)))
 
 -- ---- a mark and a return to it
 
@@ -195,15 +215,15 @@ pub record BringsBack (s : State) (h : Histories) (done : Done) (taken : List �
   pub balances : taken ≡ s .balances
   pub history : resumed .current ≡ h .current
 
--- Every trial in which a mark is set and later gone back to, whatever comes between, as long as nothing sets the mark again.
+-- Every trial on a book that numbers 1 to 4 do not refuse, freshly opened or not, in which a mark is set and later gone back to, whatever
+-- comes between, as long as nothing sets the mark again.
 abbrev pub EveryReturn : Type 0
-EveryReturn = (calendar tables balances : List ℕ) (day : ℕ) (opening : Done) (cleared : List ℕ)
-    → leftOpen opening cleared ≡ opened calendar tables balances day → opening .number ≡ 0
-    → (store : List ℕ) → length store ≡ storeWords → (before : List Turn) (k number : ℕ) (marks : List ℕ) (between : List Turn)
-    (done : Done) (taken : List ℕ) → isMark k ≡ true → Leaves k between
-    → (let s : State = record { book = opening .book; balances = cleared; store = store } in
-    let whole = before ++ (markSet k number marks ∷ (between ++ (wentBack k done taken ∷ []))) in
-    AllKeep calendar tables s whole → AllSpoken store begun whole
+EveryReturn = (calendar tables : List ℕ) (s : State) → firstOf (bookCauses calendar tables (s .book .day) (s .balances)) ≡ 0
+    → s .book .count ≤ largestCount → length (s .store) ≡ storeWords
+    → (before : List Turn) (k number : ℕ) (marks : List ℕ) (between : List Turn) (done : Done) (taken : List ℕ)
+    → isMark k ≡ true → Leaves k between
+    → (let whole = before ++ (markSet k number marks ∷ (between ++ (wentBack k done taken ∷ []))) in
+    AllKeep calendar tables s whole → AllSpoken (s .store) begun whole
     → BringsBack (afterAll s before) (followedAll begun before) done taken (followedAll begun whole))
 
 -- ---- every list of steps is a trial
