@@ -20,6 +20,7 @@ use Rattle.history.specs.Ledger.{Ledger, started, bookOf, balancesOf, judged}
 use Rattle.history.specs.Statement.{AgreesWithLedger}
 use Rattle.history.specs.Continuation.{SoundLedger, GoesOn, Period, AllGoOn}
 use Rattle.history.proofs.Accepted.{begun}
+use Rattle.history.proofs.Answers.{opened-for-number}
 use Rattle.history.proofs.StaysSound.{opened-sound}
 use Rattle.history.proofs.Theorem.{started-book, started-balances, every-history}
 use Rattle.history.proofs.Continuation.{started-sound, all-go-on, every-continuation}
@@ -52,12 +53,8 @@ module _ (calendar tables words : List ℕ) (day : ℕ) where
   opening-widened e = rw (length-widened words e, e)
 
   opening-number : lendingOpened calendar tables words day .number ≡ 0 → lendingOpening ≡ 0
-  unfolding lendingOpened openedFor lendingOpening
-  opening-number z = go lendingOpening z
-    where
-      go : (n : ℕ) → openedFor n words day .number ≡ 0 → n ≡ 0
-      go zero q = refl
-      go (suc n) q = q
+  unfolding lendingOpened lendingOpening
+  opening-number z = sym (opened-for-number lendingOpening words day) ∙ z
 
   -- its book and balances are those of the opening with repo empty
   opening-balances : length words ≡ 4096 → replicate (length (widened words)) 0 ≡ widened (replicate (length words) 0)

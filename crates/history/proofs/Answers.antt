@@ -64,7 +64,16 @@ module _ (calendar tables : List ℕ) (book : Book) (balances : List ℕ) (call 
 
 -- ---- an opening
 
+pub opened-for-number : (n : ℕ) (balances : List ℕ) (day : ℕ) → openedFor n balances day .number ≡ n
+unfolding openedFor
+opened-for-number zero balances day = refl
+opened-for-number (suc n) balances day = refl
+
 module _ (calendar tables balances : List ℕ) (day : ℕ) where
+  pub opened-number : opened calendar tables balances day .number ≡ openingNumber calendar tables balances day
+  unfolding opened
+  opened-number = opened-for-number (openingNumber calendar tables balances day) balances day
+
   open-refused-for : (n : ℕ) → (n ≡ 0 → ⊥)
       → leftOpen (record { number = n; book = record { day = firstDate; count = 0 }; claims = 0 }) balances ≡ openedFor n balances day
   unfolding openedFor leftOpen

@@ -15,6 +15,7 @@ use Rattle.history.specs.Results.{Run, left, Opened, leftOpen, openedFor, opene
 use Rattle.history.specs.Ledger.{started, bookOf, balancesOf, judged}
 use Rattle.history.specs.Statement.{AgreesWithLedger}
 use Rattle.history.specs.Continuation.{GoesOn}
+use Rattle.history.proofs.Answers.{opened-number}
 use Rattle.history.proofs.StaysSound.{opened-sound}
 use Rattle.history.proofs.Theorem.{every-history}
 use Rattle.history.proofs.Continuation.{every-continuation}
@@ -115,11 +116,6 @@ begins calendar tables start store good l = record { run = refl; words = l; mark
 
 -- ---- behind an accepted opening
 
-opening-accepted : (balances : List ℕ) (day n : ℕ) → openedFor n balances day .number ≡ 0 → n ≡ 0
-unfolding openedFor
-opening-accepted balances day zero e = refl
-opening-accepted balances day (suc n) e = e
-
 opening-count : (balances : List ℕ) (day n : ℕ) → openedFor n balances day .book .count ≤ 4294967295
 unfolding openedFor
 opening-count balances day zero = omega arith
@@ -137,8 +133,10 @@ module _ (calendar tables balances : List ℕ) (day : ℕ) (opening : Done) (cle
   good : Good calendar tables (start .book) (start .balances)
   unfolding opened
   good =
-      let n = openingNumber calendar tables balances day in
-      record { sound = opened-sound calendar tables balances day (opening-accepted balances day n accepted); counted = opening-count balances day n }
+      record {
+        sound = opened-sound calendar tables balances day (sym (opened-number calendar tables balances day) ∙ accepted);
+        counted = opening-count balances day (openingNumber calendar tables balances day);
+      }
 
   abbrev first : State
   first = record { book = opening .book; balances = cleared; store = store }

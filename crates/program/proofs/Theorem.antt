@@ -11,7 +11,8 @@ use borrow.Author.Tests.{eqb-true, eqb-false, eq-eqb, ne-eqb}
 use Rattle.lists.specs.Tests.{cond-true, cond-false}
 use Rattle.lists.specs.Put.{put}
 use Rattle.history.specs.Causes.{openingNumber}
-use Rattle.history.specs.Results.{openedFor, opened}
+use Rattle.history.specs.Results.{opened}
+use Rattle.history.proofs.Answers.{opened-number}
 use Rattle.stream.specs.Stream.{answerBytes}
 use Rattle.stream.specs.Statement.{begun, ledgerBytes}
 use Rattle.stream.proofs.Headers.{next-empty, waiting-short}
@@ -69,14 +70,6 @@ module _ (all : List ℕ → List ℕ) (input : List ℕ) where
         go (suc n) z e = unfold openingFor in refused-good (suc n) _ _ _ output e
 
 -- ---- book.dat
-
-opened-number : (calendar tables balances : List ℕ) (day : ℕ) → opened calendar tables balances day .number ≡ openingNumber calendar tables balances day
-unfolding opened openedFor
-opened-number calendar tables balances day = go (openingNumber calendar tables balances day)
-  where
-    go : (n : ℕ) → openedFor n balances day .number ≡ n
-    go zero = refl
-    go (suc n) = refl
 
 right-size : (file : List ℕ) → length file ≡ 9220 → fileNumber file ≡ openingNumber (calendarIn file) (tablesIn file) noBalances (dayIn file)
 unfolding fileNumber

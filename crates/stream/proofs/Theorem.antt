@@ -9,8 +9,9 @@ use Rattle.lists.specs.Tests.{cond-true, cond-false}
 use Rattle.lists.specs.First.{firstOf}
 use Rattle.book.specs.declared.Book.{Book}
 use Rattle.book.specs.Soundness.{bookCauses}
-use Rattle.history.specs.Results.{Answer, openedFor, opened, runFrom}
+use Rattle.history.specs.Results.{Answer, opened, runFrom}
 use Rattle.history.specs.Causes.{openingNumber}
+use Rattle.history.proofs.Answers.{opened-number}
 use Rattle.history.proofs.StaysSound.{opened-sound}
 use Rattle.history.proofs.Theorem.{every-history}
 use Rattle.stream.specs.declared.Next.{Next}
@@ -159,12 +160,7 @@ module _ (calendar tables : List ℕ) where
 
 module _ (calendar tables balances : List ℕ) (day : ℕ) (e : opened calendar tables balances day .number ≡ 0) where
   accepted : openingNumber calendar tables balances day ≡ 0
-  unfolding opened openedFor
-  accepted = go (openingNumber calendar tables balances day) e
-    where
-      go : (n : ℕ) → openedFor n balances day .number ≡ 0 → n ≡ 0
-      go zero q = refl
-      go (suc n) q = q
+  accepted = sym (opened-number calendar tables balances day) ∙ e
 
   pub opening-sound : Sound calendar tables (begun (opened calendar tables balances day))
   unfolding Sound begun
