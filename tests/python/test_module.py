@@ -210,6 +210,15 @@ def mark_calls(count, seed):
     return lines
 
 
+def all_days():
+    """Every day from 2000 to 2039 and numbers that are none, each with whether a book can be on it: Monday to Friday, but for the last open day."""
+    first, last = datetime.date(2000, 1, 1), datetime.date(2039, 12, 31)
+    days = [first + datetime.timedelta(days) for days in range((last - first).days + 1)]
+    numbers = {10000 * day.year + 100 * day.month + day.day: day.weekday() < 5 for day in days}
+    numbers[20391230] = False
+    return numbers | dict.fromkeys((0, 1, 19991231, 20000100, 20230229, 20230431, 20231301, 20400102, 2 ** 32 - 1), False)
+
+
 class AgainstC(building.Library):
     """The same list of calls through the C caller and through the module."""
     maxDiff = 2000
@@ -753,12 +762,7 @@ class CarryOver(unittest.TestCase):
 
     def test_every_day(self):
         """Every day from 2000 to 2039 that is open, but the last; no other number."""
-        first, last = datetime.date(2000, 1, 1), datetime.date(2039, 12, 31)
-        days = [first + datetime.timedelta(days) for days in range((last - first).days + 1)]
-        numbers = {10000 * day.year + 100 * day.month + day.day: day.weekday() < 5 for day in days}
-        numbers[20391230] = False
-        numbers |= dict.fromkeys((0, 1, 19991231, 20000100, 20230229, 20230431, 20231301, 20400102, 2 ** 32 - 1), False)
-        for number, good in numbers.items():
+        for number, good in all_days().items():
             self.assertEqual(self.number(Book(number, 3)), 0 if good else Number.BAD_BOOK, number)
 
     def test_lengths(self):
@@ -970,11 +974,7 @@ class Marks(unittest.TestCase):
 
     def test_every_day(self):
         """Every day from 2000 to 2039 that is open, but the last, is the book's or the mark's; no other number is."""
-        first, last = datetime.date(2000, 1, 1), datetime.date(2039, 12, 31)
-        days = [first + datetime.timedelta(days) for days in range((last - first).days + 1)]
-        numbers = {10000 * day.year + 100 * day.month + day.day: day.weekday() < 5 for day in days}
-        numbers[20391230] = False
-        numbers |= dict.fromkeys((0, 1, 19991231, 20000100, 20230229, 20230431, 20231301, 20400102, 2 ** 32 - 1), False)
+        numbers = all_days()
         for day, good in numbers.items():
             self.assertEqual(self.numbers(book=Book(day, 3)), (0, 0) if good else (Number.BAD_BOOK,) * 2, day)
         for day, good in numbers.items():

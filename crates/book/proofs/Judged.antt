@@ -114,6 +114,12 @@ pub numbered-book : (calendar tables : List ℕ) (day : ℕ) (balances : List �
 unfolding numbered bookCauses tableCauses stateCauses
 numbered-book calendar tables day balances = refl
 
+-- number 4 does not apply where none of 1 to 4 does
+pub sound-state : (calendar tables : List ℕ) (day : ℕ) (balances : List ℕ) → firstOf (bookCauses calendar tables day balances) ≡ 0
+    → (badDay calendar day || badBalances balances) ≡ false
+unfolding bookCauses tableCauses stateCauses appliesAt
+sound-state calendar tables day balances z = cleared 4 (bookCauses calendar tables day balances) (numbered-book calendar tables day balances) z
+
 pub numbered-opening : (calendar tables balances : List ℕ) (day : ℕ) → numbered (openingCauses calendar tables balances day) ≡ true
 unfolding numbered openingCauses tableCauses
 numbered-opening calendar tables balances day = refl

@@ -1,24 +1,23 @@
 -- A history that begins in the form with lending alone and goes on behind the move is one history: the opening with repo empty, the list
 -- before the move and the list after it are the same calls on one book.
-use mathlib.Core.Path.{_≡_, refl, sym, ap, ap₂, _∙_, subst}
+use mathlib.Core.Path.{_≡_, refl, sym, ap, _∙_, subst}
 use mathlib.Core.Bool.{false, not, _||_}
 use mathlib.Core.List.{List, [], _∷_, _++_}
-use Prim.Native.Nat.{ℕ, zero, suc, _+_}
-use native.Mathlib.Omega.{arith}
+use Prim.Native.Nat.{ℕ, _+_}
 use lib.Dec.{eqb}
 use lib.ListN.{length, replicate, length-replicate, replicate-append-replicate}
 use borrow.Author.Tests.{eqb-true, not-false}
 use Rattle.lists.specs.Tests.{or-false-right}
 use Rattle.lists.specs.First.{firstOf, numbered, appliesAt, cleared, withTest}
 use Rattle.book.specs.declared.Book.{Book}
-use Rattle.book.specs.Soundness.{wrongLengthFor, wrongLength, badDay, badBalances, tableCauses, stateCauses, bookCauses, openingCauses}
-use Rattle.book.proofs.Judged.{SoundTables, numbered-book}
+use Rattle.book.specs.Soundness.{wrongLengthFor, wrongLength, badDay, tableCauses, bookCauses, openingCauses}
+use Rattle.book.proofs.Judged.{sound-state}
 use Rattle.history.specs.Calls.{Call}
 use Rattle.history.specs.Causes.{openingNumber}
 use Rattle.history.specs.Results.{Run, Opened, result, leftOpen, openedFor, opened, run, followedBy, runFrom}
 use Rattle.history.specs.Ledger.{Ledger, started, bookOf, balancesOf, judged}
 use Rattle.history.specs.Statement.{AgreesWithLedger}
-use Rattle.history.specs.Continuation.{SoundLedger, GoesOn, Period, AllGoOn}
+use Rattle.history.specs.Continuation.{SoundLedger, GoesOn, Period}
 use Rattle.history.proofs.Accepted.{begun}
 use Rattle.history.proofs.Answers.{opened-for-number}
 use Rattle.history.proofs.StaysSound.{opened-sound}
@@ -30,7 +29,7 @@ use Rattle.carry_over.specs.CarriedOver.{widened, carried}
 use Rattle.carry_over.specs.LendingForm.{lendingRun, lendingOpened}
 use Rattle.carry_over.specs.Statement.{NoRepo, withRepoEmpty, CountsBothSides, EveryCarriedHistory, EveryCarriedCall, NoRepoIn, AllCarryOn, EveryCarriedPeriod}
 use Rattle.carry_over.proofs.Zeros.{length-widened, bad-widened}
-use Rattle.carry_over.proofs.Carried.{saved-words, carry-clear, number-is, carried-is}
+use Rattle.carry_over.proofs.Carried.{carry-clear, number-is, carried-is}
 use Rattle.carry_over.proofs.Lists.{every-lending-list, run-words}
 
 -- ---- the opening
@@ -62,12 +61,6 @@ module _ (calendar tables words : List ℕ) (day : ℕ) where
   opening-balances e = rw (length-widened words e, e) (sym (replicate-append-replicate {A = ℕ} 4096 4096 0))
 
 -- ---- the list before the move
-
--- number 4 of a sound book
-fourth : (calendar tables : List ℕ) (day : ℕ) (balances : List ℕ) → firstOf (bookCauses calendar tables day balances) ≡ 0
-    → (badDay calendar day || badBalances balances) ≡ false
-unfolding bookCauses tableCauses stateCauses appliesAt
-fourth calendar tables day balances z = cleared 4 (bookCauses calendar tables day balances) (numbered-book calendar tables day balances) z
 
 module _ (calendar tables words : List ℕ) (day : ℕ) (z : lendingOpened calendar tables words day .number ≡ 0) where
   abbrev start : Book
@@ -118,7 +111,7 @@ module _ (calendar tables words : List ℕ) (day : ℕ) (z : lendingOpened calen
         let s = begun calendar tables (widened words) day number .tables-sound in
         number-is calendar (r .book) (r .balances) balances
         ∙ carry-clear calendar (r .book) (r .balances) balances (s .calendar-words) (run-words calendar tables before start zeros zeros-words) l (s .calendar-rule)
-        (subst (λ b. (badDay calendar (r .book .day) || b) ≡ false) (bad-widened (r .balances)) (fourth calendar tables (r .book .day) (widened (r .balances)) left-sound))
+        (subst (λ b. (badDay calendar (r .book .day) || b) ≡ false) (bad-widened (r .balances)) (sound-state calendar tables (r .book .day) (widened (r .balances)) left-sound))
 
     -- both lists are one
     one-list : (balances : List ℕ) → length balances ≡ 8192 → (after : List Call)

@@ -17,7 +17,7 @@ use Rattle.book.specs.declared.Book.{Book}
 use Rattle.book.specs.Loans.{loanCauses}
 use Rattle.book.specs.Book.{Position, position, largestBalance}
 use Rattle.book.specs.Soundness.{wrongLength, badDay, goodBalance, goodBalancesFrom, badBalances, tableCauses, stateCauses, bookCauses, openingCauses}
-use Rattle.book.proofs.Judged.{kept, numbered-book, numbered-opening}
+use Rattle.book.proofs.Judged.{kept, numbered-book, numbered-opening, sound-state}
 use Rattle.book.proofs.Posted.{posting-clear, posted-sound, posted-length}
 use Rattle.history.specs.Calls.{TransferArguments, Call, transfer, close, claimsOf}
 use Rattle.history.specs.Causes.{recordCauses, fieldCauses, countCauses, roomCauses, transferCauses, callCauses, soundCauses, causes, numberFor, openingNumber}
@@ -45,8 +45,7 @@ module _ (calendar tables : List ℕ) (book : Book) (balances : List ℕ) (z : f
       first-none _ (none-left (tableCauses calendar tables balances) _ (none-applies _ (numbered-book calendar tables (book .day) balances) z))
 
   fourth : badDay calendar (book .day) || badBalances balances ≡ false
-  unfolding bookCauses tableCauses stateCauses appliesAt
-  fourth = cleared 4 (bookCauses calendar tables (book .day) balances) (numbered-book calendar tables (book .day) balances) z
+  fourth = sound-state calendar tables (book .day) balances z
 
   balances-clear : badBalances balances ≡ false
   balances-clear = or-false-right (badDay calendar (book .day)) _ fourth

@@ -8,7 +8,8 @@ ghost use lib.ListN.{length};
 ghost use Rattle.lists.specs.First.{firstOf};
 ghost use Rattle.lists.specs.Sums.{sum};
 ghost use Rattle.book.specs.Book.{position};
-ghost use Rattle.book.specs.Soundness.{badDay, goodBalance, badBalances, tableCauses, stateCauses, bookCauses, lentBookCauses, openingCauses, carryCauses, presentCauses};
+ghost use Rattle.book.specs.Soundness.{badDay, goodBalance, badBalances, tableCauses, stateCauses, bookCauses, lentBookCauses, openingCauses};
+ghost use Rattle.book.specs.Soundness.{carryCauses, presentCauses};
 ghost use Rattle.judging.specs.Quick.{excessOf, ownPars};
 use days::Day;
 

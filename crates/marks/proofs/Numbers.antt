@@ -1,14 +1,14 @@
 -- The numbers of both calls, from the tests of the code, and what number 0 says.
-use mathlib.Core.Path.{_≡_, refl, sym, ap, _∙_}
-use mathlib.Core.Bool.{Bool, true, false, cond, not, _&&_, _||_}
-use mathlib.Core.List.{List, [], _∷_, _++_}
-use Prim.Native.Nat.{ℕ, zero, suc, _+_, _-_, _*_, _≤_, _<_}
+use mathlib.Core.Path.{_≡_, refl, ap, _∙_}
+use mathlib.Core.Bool.{Bool, true, false, cond, not, _||_}
+use mathlib.Core.List.{List, []}
+use Prim.Native.Nat.{ℕ, _+_, _-_, _≤_, _<_}
 use native.Mathlib.Omega.{arith}
 use lib.Dec.{eqb, ltb, leb}
 use lib.ListN.{length, getD, drop}
 use borrow.Author.Tests.{eqb-true, eq-eqb, ne-eqb, le-leb, lt-leb, leb-true, lt-ltb, le-ltb, ltb-false, not-false}
 use Rattle.lists.specs.Tests.{and-left, and-right, or-false-left, or-false-right}
-use Rattle.lists.specs.First.{firstOf, numbered, appliesAt, cleared, hit, skip, none, numbered-append, first-group, next-group, none-applies, first-none, none-left, none-right, hit-group, skip-group}
+use Rattle.lists.specs.First.{firstOf, numbered, hit, skip, none, numbered-append, none-applies, first-none, none-left, none-right, hit-group, skip-group}
 use Rattle.days.specs.Days.{isDate, isOpen}
 use Rattle.days.proofs.OpenDays.{open-date}
 use Rattle.days.proofs.Parts.{parts}

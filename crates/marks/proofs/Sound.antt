@@ -1,18 +1,17 @@
 -- The states that lists of calls leave are sound, and their counts have 32 bits. On such a state setting a mark is accepted, and the words of a
 -- mark that was set on one can be gone back to.
-use mathlib.Core.Path.{_≡_, refl, sym, ap, _∙_}
+use mathlib.Core.Path.{_≡_, refl, sym, _∙_}
 use mathlib.Core.Bool.{Bool, true, false, cond, not, _||_}
-use mathlib.Core.List.{List, [], _∷_, _++_}
-use Prim.Native.Nat.{ℕ, zero, suc, _+_, _≤_}
+use mathlib.Core.List.{List, [], _∷_}
+use Prim.Native.Nat.{ℕ, zero, suc, _≤_}
 use native.Mathlib.Omega.{arith}
-use lib.Dec.{eqb, ltb}
-use lib.ListN.{length, getD, drop}
+use lib.ListN.{length}
 use borrow.Author.Tests.{eq-eqb, le-ltb}
-use Rattle.lists.specs.First.{firstOf, appliesAt, cleared, first-group, next-group, none-applies}
+use Rattle.lists.specs.First.{firstOf, first-group, next-group, none-applies}
 use Rattle.book.specs.declared.Book.{Book}
-use Rattle.book.specs.Soundness.{badDay, badBalances, tableCauses, stateCauses, bookCauses, presentCauses}
+use Rattle.book.specs.Soundness.{stateCauses, bookCauses, presentCauses}
 use Rattle.book.proofs.Causes.{present-state, numbered-present}
-use Rattle.book.proofs.Judged.{numbered-book, sound-number}
+use Rattle.book.proofs.Judged.{sound-state, sound-number}
 use Rattle.history.specs.Calls.{Call, transfer, close}
 use Rattle.history.specs.Causes.{numberFor}
 use Rattle.history.specs.Results.{nextBook, resultWith, resultFor, result, runBy, run}
@@ -53,16 +52,11 @@ module _ (calendar tables : List ℕ) where
     pub good-balances : length balances ≡ 8192
     good-balances = sound-number calendar tables (book .day) balances (g .sound) .tables-sound .balance-words
 
-    -- number 4 does not apply
-    good-state : (badDay calendar (book .day) || badBalances balances) ≡ false
-    unfolding bookCauses tableCauses stateCauses appliesAt
-    good-state = cleared 4 (bookCauses calendar tables (book .day) balances) (numbered-book calendar tables (book .day) balances) (g .sound)
-
     good-present : firstOf (presentCauses calendar (book .day) balances) ≡ 0
     unfolding stateCauses firstOf
     good-present =
         let s = sound-number calendar tables (book .day) balances (g .sound) .tables-sound in
-        sym (present-state calendar (book .day) balances (s .calendar-words) (s .balance-words) (s .calendar-rule) (rw good-state))
+        sym (present-state calendar (book .day) balances (s .calendar-words) (s .balance-words) (s .calendar-rule) (rw (sound-state calendar tables (book .day) balances (g .sound))))
 
     behind : (store : List ℕ) (k : ℕ) → length store ≡ 32780 → firstOf (setCauses calendar (book .day) balances store k) ≡ cond (isMark k) 0 16
     unfolding setCauses storeCauses firstOf
@@ -94,7 +88,7 @@ module _ (calendar tables : List ℕ) where
     -- the words of a mark set on this state
     pub words-good : badMark calendar (wordsFor book balances) ≡ false
     unfolding badMark wordsFor isSet countIn dayIn balancesIn
-    words-good = rw (le-ltb 4294967295 (book .count) (g .counted)) good-state
+    words-good = rw (le-ltb 4294967295 (book .count) (g .counted)) (sound-state calendar tables (book .day) balances (g .sound))
 
 -- an unset mark
 pub unset-bad : (calendar words : List ℕ) → isSet words ≡ false → badMark calendar words ≡ true

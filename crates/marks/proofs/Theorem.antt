@@ -5,11 +5,9 @@ use mathlib.Core.Bool.{Bool, true, false, cond, not, _||_}
 use mathlib.Core.List.{List, [], _∷_, _++_}
 use Prim.Native.Nat.{ℕ, zero, suc, _≤_}
 use native.Mathlib.Omega.{arith}
-use lib.Dec.{eqb}
 use lib.ListN.{length}
 use borrow.Author.Tests.{eq-eqb}
 use Rattle.book.specs.declared.Done.{Done}
-use Rattle.history.specs.Calls.{Call}
 use Rattle.history.specs.Causes.{openingNumber}
 use Rattle.history.specs.Results.{Run, left, Opened, leftOpen, openedFor, opened, runBy, runFrom}
 use Rattle.history.specs.Ledger.{started, bookOf, balancesOf, judged}
@@ -20,7 +18,7 @@ use Rattle.history.proofs.StaysSound.{opened-sound}
 use Rattle.history.proofs.Theorem.{every-history}
 use Rattle.history.proofs.Continuation.{every-continuation}
 use Rattle.marks.specs.Marks.{isMark, markIn, isSet}
-use Rattle.marks.specs.Trials.{State, Turn, worked, markSet, wentBack, after, afterAll, AllKeep, Past, Kept, unset, ended, Histories, begun, keptAt, takenUp, followed, followedAll, isEnded, mayReturn, AllSpoken, NoneSet, EveryUnsetStore, returnAnswer, AllAnswer, along, AtHistory, EveryTrial, EveryLaterTrial, Leaves, BringsBack, EveryReturn, Step, work, mark, back, turnOf, turnsOf, EveryListIsATrial}
+use Rattle.marks.specs.Trials.{State, Turn, worked, markSet, wentBack, after, afterAll, AllKeep, Past, Kept, unset, ended, Histories, begun, keptAt, takenUp, followed, followedAll, isEnded, mayReturn, AllSpoken, NoneSet, EveryUnsetStore, returnAnswer, AllAnswer, along, EveryTrial, EveryLaterTrial, Leaves, BringsBack, EveryReturn, work, mark, back, turnOf, turnsOf, EveryListIsATrial}
 use Rattle.marks.proofs.Sound.{Good}
 use Rattle.marks.proofs.Turns.{Stands, step}
 
@@ -56,7 +54,7 @@ module _ (calendar tables : List ℕ) (start : Opened) (first : List ℕ) (good 
     returned-at s h a q e y =
         let n = step calendar tables start first good s h (wentBack k done taken) a (e .0) (y .0) in
         let c : takenUp (h .marks k) h .current ≡ p = rw q in
-        (n .0 ∙ rw (m, q), subst (λ (p : Past). Is p (after s (wentBack k done taken))) c (n .1 .run), c)
+        (n .0 ∙ rw (m, q), subst (λ (p : Past). Is p (after s (wentBack k done taken))) c (n .1 .at .run), c)
 
     between-turns : (between : List Turn) (s : State) (h : Histories) → At s h → h .marks k ≡ ended p → Leaves k between
         → AllKeep calendar tables s (between ++ last) → AllSpoken first h (between ++ last)
@@ -91,7 +89,7 @@ module _ (calendar tables : List ℕ) (start : Opened) (first : List ℕ) (good 
       let t = markSet k number marks in
       let n = step calendar tables start first good s h t a (e .0) (y .0) .1 in
       let r = between-turns k m (h .current) done taken between (after s t) (followed h t) n kept l (e .1) (y .1) in
-      let q = r .1 ∙ sym (a .run) in
+      let q = r .1 ∙ sym (a .at .run) in
       record { number = r .0; book = book-of q; balances = balances-of q; history = r .2 }
     where
       kept : followed h (markSet k number marks) .marks k ≡ ended (h .current)
@@ -112,7 +110,7 @@ module _ (calendar tables : List ℕ) (start : Opened) (first : List ℕ) (good 
 begins : (calendar tables : List ℕ) (start : Opened) (store : List ℕ) (good : Good calendar tables (start .book) (start .balances)) → length store ≡ 32780
     → Stands calendar tables start store good (record { book = start .book; balances = start .balances; store = store }) begun
 unfolding along runFrom runBy begun
-begins calendar tables start store good l = record { run = refl; words = l; marks = λ k m. refl; outside = λ k m. refl }
+begins calendar tables start store good l = record { at = record { run = refl; words = l; marks = λ k m. refl }; outside = λ k m. refl }
 
 -- ---- behind an accepted opening
 
@@ -147,11 +145,6 @@ module _ (calendar tables balances : List ℕ) (day : ℕ) (opening : Done) (cle
       subst (λ (o : Opened). Stands calendar tables start store good (record { book = o .book; balances = o .balances; store = store }) begun) (sym e)
       (begins calendar tables start store good l)
 
--- what a list of turns gives
-trial-at : (calendar tables : List ℕ) (start : Opened) (first : List ℕ) (good : Good calendar tables (start .book) (start .balances)) (s : State) (h : Histories)
-    → Stands calendar tables start first good s h → AtHistory calendar tables start first s h
-trial-at calendar tables start first good s h a = record { run = a .run; words = a .words; marks = a .marks }
-
 pub every-trial : EveryTrial
 every-trial calendar tables balances day opening cleared e z store l turns all spoken =
     let g = good calendar tables balances day opening cleared e z store l in
@@ -161,8 +154,8 @@ every-trial calendar tables balances day opening cleared e z store l turns all s
     let r = steps calendar tables o store g turns s begun a all spoken in
     let calls = followedAll begun turns .current .calls in (
       r .0,
-      trial-at calendar tables o store g _ _ (r .1),
-      subst (λ (x : Run). AgreesWithLedger calendar tables day calls x (judged calendar tables (started day) calls)) (sym (r .1 .run))
+      r .1 .at,
+      subst (λ (x : Run). AgreesWithLedger calendar tables day calls x (judged calendar tables (started day) calls)) (sym (r .1 .at .run))
           (every-history calendar tables balances day (accepted calendar tables balances day opening cleared e z store l) calls),
     )
 
@@ -176,8 +169,8 @@ every-later-trial calendar tables before k z c store l turns all spoken =
     let r = steps calendar tables o store g turns s begun a all spoken in
     let calls = followedAll begun turns .current .calls in (
       r .0,
-      trial-at calendar tables o store g _ _ (r .1),
-      subst (λ (x : Run). GoesOn calendar tables before calls x (judged calendar tables before calls)) (sym (r .1 .run))
+      r .1 .at,
+      subst (λ (x : Run). GoesOn calendar tables before calls x (judged calendar tables before calls)) (sym (r .1 .at .run))
           (unfold runFrom in every-continuation calendar tables before k calls),
     )
 

@@ -1,21 +1,20 @@
 -- What each turn of a trial keeps: the book is at the history that runs beside the trial, and the store holds the histories that ended at the
 -- marks.
 use mathlib.Core.Path.{_≡_, refl, sym, ap, _∙_, subst}
-use mathlib.Core.Bool.{Bool, true, false, cond, not, _&&_, _||_, true≢false}
+use mathlib.Core.Bool.{Bool, true, false, cond, not, _||_, true≢false}
 use mathlib.Core.List.{List, [], _∷_, _++_}
-use Prim.Native.Nat.{ℕ, zero, suc, _≤_}
+use Prim.Native.Nat.{ℕ, suc}
 use native.Mathlib.Omega.{arith}
 use lib.Dec.{eqb}
-use lib.ListN.{length, drop, getD}
-use borrow.Author.Tests.{eqb-true, eqb-false, eq-eqb, ne-eqb}
+use lib.ListN.{length}
+use borrow.Author.Tests.{eqb-true, eqb-false, ne-eqb}
 use Rattle.lists.specs.Put.{put}
-use Rattle.book.specs.declared.Book.{Book}
 use Rattle.book.specs.declared.Done.{Done}
 use Rattle.history.specs.Calls.{Call}
 use Rattle.history.specs.Results.{Result, Run, Gives, left, result, Opened, leftOpen, runBy, run, followedBy, runFrom}
 use Rattle.history.proofs.Runs.{run-append}
 use Rattle.marks.specs.Marks.{isMark, placeOf, markIn, isSet, dayIn, countIn, balancesIn, wordsFor, Marked, leftMark, markedFor, marked, heldBy, returnNumber, returnedFor, returned, badMark}
-use Rattle.marks.specs.Trials.{State, Turn, worked, markSet, wentBack, after, Keeps, Past, Kept, unset, ended, Histories, wentOn, keptAt, takenUp, followed, isEnded, mayReturn, Spoken, setAnswer, returnAnswer, Answers, along, Holds}
+use Rattle.marks.specs.Trials.{State, Turn, worked, markSet, wentBack, after, Keeps, Past, Kept, unset, ended, Histories, wentOn, keptAt, takenUp, followed, isEnded, mayReturn, Spoken, setAnswer, returnAnswer, Answers, along, Holds, AtHistory}
 use Rattle.marks.proofs.Words.{written-length, written-mark, other-mark}
 use Rattle.marks.proofs.Sound.{Good, good-run, good-balances, set-number, return-outside, return-mark, words-good, unset-bad}
 
@@ -26,9 +25,7 @@ module _ (calendar tables : List ℕ) (start : Opened) (first : List ℕ) (good 
   runOf p = runFrom calendar tables start (p .calls)
 
   pub record Stands (s : State) (h : Histories) : Type 0 where
-    pub run : along (h .current) s ≡ runOf (h .current)
-    pub words : length (s .store) ≡ 32780
-    pub marks : (k : ℕ) → isMark k ≡ true → Holds calendar tables start (markIn first k) (h .marks k) (markIn (s .store) k)
+    pub at : AtHistory calendar tables start first s h
     pub outside : (k : ℕ) → isMark k ≡ false → h .marks k ≡ unset
 
   good-past : (p : Past) → Good calendar tables (runOf p .book) (runOf p .balances)
@@ -37,7 +34,7 @@ module _ (calendar tables : List ℕ) (start : Opened) (first : List ℕ) (good 
 
   good-stands : (s : State) (h : Histories) → Stands s h → Good calendar tables (s .book) (s .balances)
   unfolding along
-  good-stands s h k = subst (λ (r : Run). Good calendar tables (r .book) (r .balances)) (sym (k .run)) (good-past (h .current))
+  good-stands s h k = subst (λ (r : Run). Good calendar tables (r .book) (r .balances)) (sym (k .at .run)) (good-past (h .current))
 
   -- ---- a transfer or a close
 
@@ -56,7 +53,10 @@ module _ (calendar tables : List ℕ) (start : Opened) (first : List ℕ) (good 
       → (let t = worked call done buffer balances in Stands (after s t) (followed h t))
   unfolding after followed
   step-work s h call done buffer balances k g =
-      record { run = step-run (h .current) s call done buffer balances (k .run) g; words = k .words; marks = k .marks; outside = k .outside }
+      record {
+        at = record { run = step-run (h .current) s call done buffer balances (k .at .run) g; words = k .at .words; marks = k .at .marks };
+        outside = k .outside;
+      }
 
   -- ---- setting a mark
 
@@ -67,9 +67,11 @@ module _ (calendar tables : List ℕ) (start : Opened) (first : List ℕ) (good 
   step-set s h k false m a number store e = (
     ap (λ (x : Marked). x .number) e,
     record {
-      run = a .run;
-      words = ap length (ap (λ (x : Marked). x .store) e) ∙ a .words;
-      marks = λ j n. subst (λ (l : List ℕ). Holds calendar tables start (markIn first j) (h .marks j) (markIn l j)) (sym (ap (λ (x : Marked). x .store) e)) (a .marks j n);
+      at = record {
+        run = a .at .run;
+        words = ap length (ap (λ (x : Marked). x .store) e) ∙ a .at .words;
+        marks = λ j n. subst (λ (l : List ℕ). Holds calendar tables start (markIn first j) (h .marks j) (markIn l j)) (sym (ap (λ (x : Marked). x .store) e)) (a .at .marks j n);
+      };
       outside = a .outside;
     },
   )
@@ -81,22 +83,24 @@ module _ (calendar tables : List ℕ) (start : Opened) (first : List ℕ) (good 
       long : length words ≡ 8195
       long = unfold wordsFor in omega (arith, good-balances calendar tables (s .book) (s .balances) (good-stands s h a))
 
-      at : (j : ℕ) → isMark j ≡ true → (b : Bool) → eqb j k ≡ b
+      held : (j : ℕ) → isMark j ≡ true → (b : Bool) → eqb j k ≡ b
           → Holds calendar tables start (markIn first j) (cond b (ended (h .current)) (h .marks j)) (markIn (put (s .store) (placeOf k) words) j)
-      at j n true q = unfold along in (
-        ap (markIn (put (s .store) (placeOf k) words)) (eqb-true j k q) ∙ written-mark (s .store) words (a .words) long k m
-            ∙ ap (λ (r : Run). wordsFor (r .book) (r .balances)) (a .run),
-        ap (λ (r : Run). r .answers) (a .run),
+      held j n true q = unfold along in (
+        ap (markIn (put (s .store) (placeOf k) words)) (eqb-true j k q) ∙ written-mark (s .store) words (a .at .words) long k m
+            ∙ ap (λ (r : Run). wordsFor (r .book) (r .balances)) (a .at .run),
+        ap (λ (r : Run). r .answers) (a .at .run),
       )
-      at j n false q =
+      held j n false q =
           subst (λ (l : List ℕ). Holds calendar tables start (markIn first j) (h .marks j) l)
-          (sym (other-mark (s .store) words (a .words) long k m j n (eqb-false j k q))) (a .marks j n)
+          (sym (other-mark (s .store) words (a .at .words) long k m j n (eqb-false j k q))) (a .at .marks j n)
 
       set-stands : Stands (record { book = s .book; balances = s .balances; store = put (s .store) (placeOf k) words }) (keptAt k h)
       set-stands = unfold keptAt along in record {
-        run = a .run;
-        words = written-length (s .store) words (a .words) long k m;
-        marks = λ j n. at j n (eqb j k) refl;
+        at = record {
+          run = a .at .run;
+          words = written-length (s .store) words (a .at .words) long k m;
+          marks = λ j n. held j n (eqb j k) refl;
+        };
         outside = λ j o. rw (ne-eqb j k (λ q. true≢false (sym (ap isMark q ∙ m) ∙ o))) (a .outside j o);
       }
 
@@ -124,11 +128,11 @@ module _ (calendar tables : List ℕ) (start : Opened) (first : List ℕ) (good 
   resumes s h k p m a q done balances e = rw (m, q) (ap (λ (o : Opened). o .number) is, stands)
     where
       w : (markIn (s .store) k ≡ wordsFor (runOf p .book) (runOf p .balances)) × (p .answers ≡ runOf p .answers)
-      w = subst (λ (t : Kept). Holds calendar tables start (markIn first k) t (markIn (s .store) k)) q (a .marks k m)
+      w = subst (λ (t : Kept). Holds calendar tables start (markIn first k) t (markIn (s .store) k)) q (a .at .marks k m)
 
       number : returnNumber calendar (s .book) (s .balances) (s .store) k ≡ 0
       number =
-          return-mark calendar tables (s .book) (s .balances) (good-stands s h a) (s .store) k (a .words) m
+          return-mark calendar tables (s .book) (s .balances) (good-stands s h a) (s .store) k (a .at .words) m
           ∙ ap (λ (l : List ℕ). cond (badMark calendar l) 17 0) (w .0) ∙ rw (words-good calendar tables (runOf p .book) (runOf p .balances) (good-past p))
 
       is : leftOpen done balances ≡ record { number = 0; book = runOf p .book; balances = runOf p .balances }
@@ -137,9 +141,11 @@ module _ (calendar tables : List ℕ) (start : Opened) (first : List ℕ) (good 
 
       stands : Stands (record { book = done .book; balances = balances; store = s .store }) (record { current = p; marks = h .marks })
       stands = unfold leftOpen along in record {
-        run = (λ i. record { answers = w .1 i; book = is i .book; balances = is i .balances });
-        words = a .words;
-        marks = a .marks;
+        at = record {
+          run = (λ i. record { answers = w .1 i; book = is i .book; balances = is i .balances });
+          words = a .at .words;
+          marks = a .at .marks;
+        };
         outside = a .outside;
       }
 
@@ -156,9 +162,9 @@ module _ (calendar tables : List ℕ) (start : Opened) (first : List ℕ) (good 
 
       number : returnNumber calendar (s .book) (s .balances) (s .store) k ≡ 17
       number =
-          let w : markIn (s .store) k ≡ markIn first k = subst (λ (t : Kept). Holds calendar tables start (markIn first k) t (markIn (s .store) k)) q (a .marks k m) in
+          let w : markIn (s .store) k ≡ markIn first k = subst (λ (t : Kept). Holds calendar tables start (markIn first k) t (markIn (s .store) k)) q (a .at .marks k m) in
           let z : isSet (markIn first k) ≡ false = unset-first (isSet (markIn first k)) (sym (unfold mayReturn isEnded in rw (m, q)) ∙ y) in
-          return-mark calendar tables (s .book) (s .balances) (good-stands s h a) (s .store) k (a .words) m
+          return-mark calendar tables (s .book) (s .balances) (good-stands s h a) (s .store) k (a .at .words) m
           ∙ rw (unset-bad calendar (markIn (s .store) k) (ap isSet w ∙ z))
 
   -- ---- every turn
@@ -169,13 +175,13 @@ module _ (calendar tables : List ℕ) (start : Opened) (first : List ℕ) (good 
   step-mark s h k number store a e =
       step-set s h k (isMark k) refl a number store
       (e ∙ ap (λ (n : ℕ). markedFor n (s .book) (s .balances) (s .store) k)
-      (set-number calendar tables (s .book) (s .balances) (good-stands s h a) (s .store) k (a .words)))
+      (set-number calendar tables (s .book) (s .balances) (good-stands s h a) (s .store) k (a .at .words)))
 
   step-back : (s : State) (h : Histories) (k : ℕ) (b : Bool) (t : Kept) → isMark k ≡ b → h .marks k ≡ t → mayReturn first h k ≡ true → Stands s h
       → (done : Done) (balances : List ℕ) → leftOpen done balances ≡ returned calendar (s .book) (s .balances) (s .store) k → Resumes s h k done balances
   unfolding returned returnAnswer takenUp
   step-back s h k false t m q y a done balances e =
-      let number = return-outside calendar tables (s .book) (s .balances) (good-stands s h a) (s .store) k (a .words) m in
+      let number = return-outside calendar tables (s .book) (s .balances) (good-stands s h a) (s .store) k (a .at .words) m in
       rw (m, a .outside k m)
       (stays s h 15 (markIn (s .store) k) a done balances (e ∙ ap (λ (n : ℕ). returnedFor n (s .book) (s .balances) (markIn (s .store) k)) number))
   step-back s h k true unset m q y a done balances e = refuses s h k m a q y done balances e

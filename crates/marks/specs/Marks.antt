@@ -15,12 +15,14 @@ use Rattle.history.specs.Results.{Opened}
 
 -- ---- the store
 
+-- The words of a mark, and of the store of four.
 abbrev pub markWords : ℕ
 markWords = 8195
 
 abbrev pub storeWords : ℕ
 storeWords = 32780
 
+-- The marks are 1 to 4.
 unfoldable pub isMark : ℕ → Bool
 isMark k = leb 1 k && leb k 4
 
@@ -83,6 +85,7 @@ pub record Marked : Type 0 where
   pub number : ℕ
   pub store : List ℕ
 
+-- The number that a setting answers with the store that it leaves.
 abbrev pub leftMark : ℕ → List ℕ → Marked
 leftMark number store = record { number = number; store = store }
 

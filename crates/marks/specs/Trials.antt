@@ -9,7 +9,7 @@
 -- so is going back to a mark that the trial has set; outside 1 to 4 both get 16, and going back to an unset mark gets 17. Marks that the
 -- trial has not set are as they were.
 use mathlib.Core.Path.{_≡_}
-use mathlib.Core.Bool.{Bool, true, false, cond, not, _&&_, _||_}
+use mathlib.Core.Bool.{Bool, true, false, cond, not, _||_}
 use mathlib.Core.List.{List, [], _∷_, _++_}
 use Prim.Native.Nat.{ℕ, _≤_}
 use lib.Dec.{eqb}

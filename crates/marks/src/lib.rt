@@ -7,7 +7,8 @@ ghost use Prim.Native.Nat.{_≤_};
 ghost use Rattle.lists.specs.First.{firstOf};
 ghost use lib.ListN.{length};
 ghost use Rattle.history.specs.Results.{leftOpen};
-ghost use Rattle.marks.specs.Marks.{isMark, placeOf, markIn, dayIn, countIn, wordsFor, savedCauses, setCauses, returnCauses, leftMark, marked, heldBy, returned};
+ghost use Rattle.marks.specs.Marks.{isMark, placeOf, markIn, dayIn, countIn, wordsFor, savedCauses, setCauses, returnCauses};
+ghost use Rattle.marks.specs.Marks.{leftMark, marked, heldBy, returned};
 use book::Book;
 use book::Done;
 

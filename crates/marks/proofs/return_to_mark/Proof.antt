@@ -1,10 +1,7 @@
 -- A refused return leaves the balances; an accepted one takes up what the mark holds.
-use mathlib.Core.Path.{refl, sym, ap, _∙_}
-use mathlib.Core.List.{List}
-use Prim.Native.Nat.{ℕ, _≤_}
-use lib.ListN.{length}
+use mathlib.Core.Path.{refl, sym, _∙_}
 use borrow.Author.Needs.{needs}
-use Rattle.marks.specs.Marks.{dayIn, countIn, returnNumber}
+use Rattle.marks.specs.Marks.{returnNumber}
 use Rattle.marks.proofs.Numbers.{set-balances, set-mark, set-store, return-sets, return-good, saved-day-fits, saved-count-fits}
 use Rattle.marks.proofs.Stored.{mark-length, return-refused, return-accepted}
 use Rattle.marks.proofs.return_to_mark.Statement.{statement}

@@ -1,8 +1,7 @@
 -- A refused setting leaves the store; an accepted one writes the words of its mark.
-use mathlib.Core.Path.{sym, ap, _∙_}
+use mathlib.Core.Path.{sym, _∙_}
 use native.Mathlib.Omega.{arith}
 use borrow.Author.Needs.{needs}
-use borrow.Rule.Slice.PartMut.{mid-len}
 use Rattle.marks.specs.Marks.{setNumber}
 use Rattle.marks.proofs.Numbers.{place-fits, set-balances, set-mark, set-store}
 use Rattle.marks.proofs.Stored.{mark-part-length, set-refused, set-accepted}

@@ -1,5 +1,5 @@
 -- `write_mark` writes 1, day and count, and the balances behind them.
-use mathlib.Core.Path.{ap, sym, _∙_}
+use mathlib.Core.Path.{ap}
 use native.Mathlib.Omega.{arith}
 use lib.ListN.{length}
 use borrow.Author.Needs.{needs}
