@@ -1,5 +1,7 @@
 // Dates and open days (document 01, section Days). A calendar is a slice of 480 words, one a month from January 2000;
 // a number that is no date is not open, and no search finds a day from it.
+#![tactic(auto)]
+
 ghost use Rattle.std.specs.Prelude.{◌≡◌, true, ◌+◌, ◌*◌, ◌-◌, ◌≤◌, ◌<◌, length, drop};
 ghost use Rattle.days.specs.Days.{is_date, leap_day, month_length, checked, word_of, date_of, bad_from, bad_calendar};
 ghost use Rattle.days.specs.Days.{is_open, lowest_from, seek_from, open_at, open_after, open_from, last_open, as_day};
