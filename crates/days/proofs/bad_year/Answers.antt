@@ -1,0 +1,22 @@
+use mathlib.Core.Path.{◌∙◌}
+use Prim.Native.Nat.{◌+◌, ◌-◌, ◌*◌}
+use Rattle.days.proofs.Lengths.{length_le}
+use Rattle.days.proofs.Months.{Judging, judge_start, judge_bad, judge_next, judge_end, year_length}
+use borrow.Author.Rules.{rules}
+use native.Mathlib.Omega.{arith}
+use Rattle.days.proofs.bad_year.Goals as goal
+
+pub loop-m-init : goal.loop-m-init
+loop-m-init c = judge_start _ _
+
+pub overflow_shr-w : goal.overflow_shr-w
+overflow_shr-w c = let l = length_le (2000 + c.args.y) (c.loop-m.m + 1) (omega arith) (omega (arith, c.requires.0)) (omega arith) (omega arith) in omega (arith, c.month_length-n.ensures)
+
+pub returns-then-w-n-ne0 : goal.returns-then-w-n-ne0
+returns-then-w-n-ne0 c = judge_bad c.loop-m.invariant (search rules) (search rules) (c.month_length-n.ensures ∙ year_length _ _ c.loop-m-test.true) c.if-w-n-ne0.true
+
+pub loop-m-preserved : goal.loop-m-preserved
+loop-m-preserved c = judge_next c.loop-m.invariant (search rules) (search rules) (c.month_length-n.ensures ∙ year_length _ _ c.loop-m-test.true) c.if-w-n-ne0.false
+
+pub returns : goal.returns
+returns c = judge_end c.loop-m.invariant c.loop-m-test.false (search rules)

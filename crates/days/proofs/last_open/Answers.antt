@@ -1,0 +1,33 @@
+use mathlib.Core.Path.{ap, ◌∙◌}
+use Prim.Native.Nat.{◌-◌}
+use Rattle.days.specs.Days.{as_day}
+use Rattle.days.proofs.Bits.{highest_led, positive}
+use Rattle.days.proofs.Months.{Falling, fall_start, fall_here, fall_next, fall_end}
+use borrow.Author.Rules.{rules}
+use native.Mathlib.Omega.{arith}
+use Rattle.days.proofs.last_open.Goals as goal
+
+pub loop-m-init : goal.loop-m-init
+loop-m-init c = fall_start _
+
+pub overflow_sub-w : goal.overflow_sub-w
+overflow_sub-w c = (highest_led _ (positive _ c.if-w-ne0.true) (omega (arith, c.type_inv.calendar (c.loop-m.m - 1)))).1
+
+pub date_of-requires : goal.date_of-requires
+date_of-requires c = (omega (arith, c.loop-m.invariant.small), omega arith)
+
+pub returns-then-w-ne0 : goal.returns-then-w-ne0
+returns-then-w-ne0 c =
+    c.as_day.ensures
+    ∙ ap as_day
+    (c.date_of.ensures
+    ∙ fall_here c.loop-m.invariant c.loop-m-test.true _ c.if-w-ne0.true
+    (highest_led _ (positive _ c.if-w-ne0.true)
+    (omega (arith, c.type_inv.calendar (c.loop-m.m - 1)))).0)
+
+pub loop-m-preserved : goal.loop-m-preserved
+loop-m-preserved c = fall_next c.loop-m.invariant c.loop-m-test.true c.if-w-ne0.false
+
+pub returns : goal.returns
+unfolding as_day
+returns c = ap as_day (fall_end c.loop-m.invariant c.loop-m-test.false)

@@ -1,0 +1,25 @@
+use mathlib.Core.Path.{◌≡◌, refl, sym, ◌∙◌}
+use Prim.Native.Nat.{◌-◌, ◌<◌}
+use lib.ListN.{length, drop}
+use Rattle.days.specs.Days.{seek_from}
+use Rattle.days.proofs.Months.{seek_here, seek_next, seek_end}
+use borrow.Author.Rules.{rules}
+use Rattle.days.proofs.seek.Goals as goal
+
+pub loop-m-init : goal.loop-m-init
+loop-m-init c = (search rules, refl)
+
+pub returns-then-d-lt32 : goal.returns-then-d-lt32
+returns-then-d-lt32 c =
+    c.date_of.ensures
+    ∙ seek_here _ _ _ _ (search rules) c.lowest_from-d.ensures c.if-d-lt32.true
+    ∙ sym c.loop-m.invariant.1
+
+pub loop-m-preserved : goal.loop-m-preserved
+loop-m-preserved c = (
+  search rules,
+  c.loop-m.invariant.1 ∙ seek_next _ _ _ _ c.loop-m-test.true c.lowest_from-d.ensures c.if-d-lt32.false,
+)
+
+pub returns : goal.returns
+returns c = seek_end _ _ _ c.loop-m-test.false ∙ sym c.loop-m.invariant.1
