@@ -1,5 +1,7 @@
 // The message records of kinds 1 to 4 (document 01, section Message records): their types here, the definitions of what is read and
 // written in specs/, and the laws of these in proofs/. The readers are in the crate reading, the writers in the crate writing.
+#![tactic(auto)]
+
 ghost use Rattle.std.specs.Prelude.{◌≡◌};
 
 // Whole dollars of par.

@@ -1,5 +1,7 @@
 // Securities and their payments (document 01, section Securities and payments), date limits (document 02, card 5) and minimum pieces (card
 // 6). The tables are a slice of 1,824 words; limits and pieces are taken in any length.
+#![tactic(auto)]
+
 ghost use Rattle.std.specs.Prelude.{◌≡◌, ◌<◌, eqb, length};
 ghost use Rattle.lists.specs.All.{all};
 ghost use Rattle.days.specs.Days.{is_date, last_open};

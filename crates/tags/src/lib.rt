@@ -1,5 +1,7 @@
 // The Contract Date tag of a transfer's two free text lines, and its edits (document 01, section Contract Date tag; document 02, card 7).
 // Every answer is a case of Tag; nothing is assumed of the bytes.
+#![tactic(auto)]
+
 ghost use Rattle.std.specs.Prelude.{◌≡◌, ◌+◌, ◌≤◌, length, get_or};
 ghost use Rattle.lists.specs.First.{first_of};
 ghost use Rattle.lists.specs.Sums.{sum};

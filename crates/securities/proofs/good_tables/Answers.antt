@@ -1,0 +1,21 @@
+use mathlib.Core.Path.{sym, ◌∙◌}
+use Prim.Native.Nat.{◌-◌}
+use borrow.Author.Tests.{not-true, not-false}
+use Rattle.securities.proofs.Checks.{security_length, Judging, judge_start, judge_bad, judge_next, judge_end}
+use borrow.Author.Rules.{rules}
+use Rattle.securities.proofs.good_tables.Goals as goal
+
+pub loop-s-init : goal.loop-s-init
+loop-s-init c = judge_start _ _
+
+pub good_security-requires : goal.good_security-requires
+good_security-requires c = security_length _ (c.loop-s.s - 1) c.requires.1 (search rules)
+
+pub returns-then-not-good_security : goal.returns-then-not-good_security
+returns-then-not-good_security c = judge_bad _ c.last_day-last.ensures c.loop-s-test.true c.loop-s.invariant (sym c.good_security.ensures ∙ c.if-not-good_security.true)
+
+pub loop-s-preserved : goal.loop-s-preserved
+loop-s-preserved c = judge_next _ c.last_day-last.ensures c.loop-s-test.true c.loop-s.invariant (sym c.good_security.ensures ∙ c.if-not-good_security.false)
+
+pub returns : goal.returns
+returns c = judge_end c.loop-s-test.false c.loop-s.invariant

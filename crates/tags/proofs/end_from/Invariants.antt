@@ -1,0 +1,14 @@
+-- The loop keeps that the first } from the present place on is the one looked for.
+use mathlib.Core.Path.{◌≡◌, refl, sym, ◌∙◌}
+use Prim.Native.Nat.{◌-◌, ◌≤◌}
+use lib.ListN.{length}
+use Rattle.tags.specs.ContractDateTag.{end_from}
+use Rattle.tags.proofs.Ends.{end_stop, end_go, end_out}
+use borrow.Author.Rules.{rules}
+use Rattle.tags.proofs.end_from.Given as goal
+
+abbrev pub invariant-loop-i : goal.invariant-loop-i
+invariant-loop-i l = (l.i ≤ length l.line) × (end_from l.line l.start ≡ end_from l.line l.i)
+
+abbrev pub decreases-loop-i : goal.decreases-loop-i
+decreases-loop-i l = length l.line - l.i
