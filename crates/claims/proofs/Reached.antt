@@ -85,9 +85,9 @@ cut_by_number type contract day n rows e b = go (is_mbs type)
 -- ---- before the 2023 memo
 
 -- a date behind the one number is after the Contract Date and on or after the other date
-pub after_both : (contract from date : ℕ) → ltb (after_both contract from) date ≡ (ltb contract date && leb from date)
+pub after_both_lem : (contract from date : ℕ) → ltb (after_both contract from) date ≡ (ltb contract date && leb from date)
 unfolding after_both
-after_both contract from date = go (ltb contract from) refl
+after_both_lem contract from date = go (ltb contract from) refl
   where
     reached : (b : Bool) → leb from date ≡ b → contract < from → ltb (from - 1) date ≡ (ltb contract date && b)
     reached true q l =
@@ -219,7 +219,7 @@ module _ (calendar tables : List ℕ) (day : ℕ) (t : Transfer) where
         go true =
             let whole : reached_now ≡ reached_now - 0 = omega arith in
             select_same (within_half_year contract day) (λ row. ltb after row.beneficiary_date)
-            (select (λ row. leb row.beneficiary_date day) (filled_rows tables t.security)) (λ row. sym (after_both contract (six_months_before day) row.beneficiary_date))
+            (select (λ row. leb row.beneficiary_date day) (filled_rows tables t.security)) (λ row. sym (after_both_lem contract (six_months_before day) row.beneficiary_date))
             ∙ ap (select (λ row. ltb after row.beneficiary_date)) (all_reached ∙ ap (λ (n : ℕ). take n rows) whole)
             ∙ kept_behind after day reached_now (take (reached_now - 0) rows) (below_reached 0 (omega arith))
         go false =

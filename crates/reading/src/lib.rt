@@ -1,4 +1,6 @@
 // Reads the message records of kinds 1 to 4 from the start of a slice. Every slice is taken, of any length: what is no record is refused.
+#![tactic(auto)]
+
 ghost use Rattle.std.specs.Prelude.{◌≡◌, ◌+◌, ◌^◌, ◌≤◌, ◌<◌, length};
 ghost use Rattle.lists.specs.Numbers.{number_of};
 ghost use Rattle.lists.specs.Fields.{part};

@@ -1,4 +1,6 @@
 // Writes the message records of kinds 1 to 4 to the start of a buffer. Every buffer is taken, of any length: one that is too short is refused.
+#![tactic(auto)]
+
 ghost use Rattle.std.specs.Prelude.{◌≡◌, [], ◌++◌, ◌+◌, ◌≤◌, length};
 ghost use Rattle.lists.specs.Numbers.{bytes_of};
 ghost use Rattle.lists.specs.Put.{put};
