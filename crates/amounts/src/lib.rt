@@ -1,5 +1,7 @@
 // One claim on a row (document 01, section Amounts, outcomes, release): its amounts, outcome, release and slot, and its record in a
 // claim buffer. A row is the seven words of a filled row of the tables.
+#![tactic(auto)]
+
 ghost use Rattle.std.specs.Prelude.{◌≡◌, cond, ◌&&◌, ℕ, ◌+◌, ◌*◌, ◌≤◌, ◌<◌, eqb, leb, length};
 ghost use Rattle.lists.specs.Put.{put};
 ghost use Rattle.days.specs.Days.{day_number};

@@ -1,11 +1,13 @@
 // The book and its balances (document 01, sections The book and Loans): their types, the answer to a refused call, clearing and copying. The
 // definitions stand in specs/, with those of the numbers 1 to 4, 7 and 8 of what can be refused, and their laws in proofs/; the crate
 // judging has the code of numbers 1 to 4, the crate loans that of 7 and 8.
+#![tactic(auto)]
+
 ghost use Rattle.std.specs.Prelude.{◌≡◌, ◌++◌, ◌≤◌, length, drop, replicate};
 
 // A book's day and the number of its accepted transfers.
 #[repr(C)]
-#[derive(Drop)]
+#[derive(Clone, Copy)]
 pub struct Book {
     pub day: u32,
     pub count: u32,
@@ -19,7 +21,7 @@ pub const TRACKING_WORDS: usize = 4096;
 
 // What a call answers: its number, the book after it, and how many claims it wrote.
 #[repr(C)]
-#[derive(Drop)]
+#[derive(Clone, Copy)]
 pub struct Done {
     pub number: u16,
     pub book: Book,

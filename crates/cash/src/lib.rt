@@ -1,9 +1,10 @@
 // The cash forecast (document 02, card 10): its types here, the definitions in specs/, in whole numbers, and in proofs/ that each double of a
 // forecast is exactly its whole number, with the laws of runs. The code is in the crate forecast.
+#![tactic(auto)]
 
 // The cents to pay, to receive, and receive less pay.
 #[repr(C)]
-#[derive(Drop)]
+#[derive(Clone, Copy)]
 pub struct Cash {
     pub pay: f64,
     pub receive: f64,
@@ -12,7 +13,7 @@ pub struct Cash {
 
 // What a forecast answers: its number, and three zeros where that is not 0.
 #[repr(C)]
-#[derive(Drop)]
+#[derive(Clone, Copy)]
 pub struct CashForecast {
     pub number: u16,
     pub cash: Cash,

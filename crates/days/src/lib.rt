@@ -8,18 +8,18 @@ ghost use Rattle.days.specs.Days.{is_open, lowest_from, seek_from, open_at, open
 ghost use Rattle.days.specs.MemoDay.{before_memo, day_within, six_months_before};
 
 // A date: the number yyyymmdd.
-#[derive(Drop)]
+#[derive(Clone, Copy)]
 pub struct Date(pub u32);
 
 // The answer of the checking constructor.
-#[derive(Drop)]
+#[derive(Clone, Copy)]
 pub enum Checked {
     Is(Date),
     Not,
 }
 
 // The answer of a search for an open day.
-#[derive(Drop)]
+#[derive(Clone, Copy)]
 pub enum Day {
     On(Date),
     Nothing,

@@ -17,7 +17,7 @@ use tags::Tag;
 
 // The rows on which a transfer claims: those from first up to reached as failed if their Beneficiary Date is behind the number after and,
 // behind the waiting row, their Payment Date is not after the day; those from reached up to end as interim.
-#[derive(Drop)]
+#[derive(Clone, Copy)]
 pub struct Recent {
     pub after: u32,
     pub first: u8,

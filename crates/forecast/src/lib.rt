@@ -12,7 +12,7 @@ use days::{Checked, Date};
 use records::{Cents, Claim, ReadClaim};
 
 // The sums of an account over records, and whether one of these is bad.
-#[derive(Drop)]
+#[derive(Clone, Copy)]
 pub struct Sums {
     pub bad: bool,
     pub pay: u64,

@@ -1,6 +1,8 @@
 // The claims of a close on the par on loan and on repo (document 01, section Close; document 02, card 3), counted and stored by one set
 // of loops: a pass with write false counts them, one with write true stores them too. Calendar and tables are sound, and balances are at
 // most 9,000,000,000.
+#![tactic(auto)]
+
 ghost use Rattle.std.specs.Prelude.{◌≡◌, true, ◌≤◌, ◌<◌, length};
 ghost use Rattle.lists.specs.All.{all};
 ghost use Rattle.securities.specs.Securities.{row_of};

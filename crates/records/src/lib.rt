@@ -6,17 +6,17 @@ ghost use Rattle.std.specs.Prelude.{◌≡◌};
 
 // Whole dollars of par.
 #[repr(C)]
-#[derive(Drop)]
+#[derive(Clone, Copy)]
 pub struct Dollars(pub u64);
 
 // An amount in cents.
 #[repr(C)]
-#[derive(Drop)]
+#[derive(Clone, Copy)]
 pub struct Cents(pub u64);
 
 // The fields of a transfer; its two lines of free text stay in the message.
 #[repr(C)]
-#[derive(Drop)]
+#[derive(Clone, Copy)]
 pub struct Transfer {
     pub sender: u8,
     pub receiver: u8,
@@ -37,7 +37,7 @@ impl Transfer {
 
 // The fields of a claim.
 #[repr(C)]
-#[derive(Drop)]
+#[derive(Clone, Copy)]
 pub struct Claim {
     pub claim_type: u8,
     pub outcome: u8,
@@ -54,41 +54,41 @@ pub struct Claim {
 
 // The field of an answer.
 #[repr(C)]
-#[derive(Drop)]
+#[derive(Clone, Copy)]
 pub struct Answer {
     pub number: u16,
 }
 
 // What a reader of transfers finds: the record, or, as every reader, bytes that it refuses with 5.
-#[derive(Drop)]
+#[derive(Clone, Copy)]
 pub enum ReadTransfer {
     Is(Transfer),
     Refused,
 }
 
 // Whether a reader finds a close.
-#[derive(Drop)]
+#[derive(Clone, Copy)]
 pub enum ReadClose {
     Is,
     Refused,
 }
 
 // What a reader of claims finds.
-#[derive(Drop)]
+#[derive(Clone, Copy)]
 pub enum ReadClaim {
     Is(Claim),
     Refused,
 }
 
 // What a reader of answers finds.
-#[derive(Drop)]
+#[derive(Clone, Copy)]
 pub enum ReadAnswer {
     Is(Answer),
     Refused,
 }
 
 // What a writer did: the whole record, or nothing, with 10, in a buffer that is too short.
-#[derive(Drop)]
+#[derive(Clone, Copy)]
 pub enum Wrote {
     Whole,
     Short,

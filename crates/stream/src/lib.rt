@@ -4,7 +4,7 @@
 use book::Book;
 
 // What the input begins with: a whole record with its size, something that may still become one, or something that is none.
-#[derive(Drop)]
+#[derive(Clone, Copy)]
 pub enum Next {
     Record(usize),
     Waiting,
@@ -12,7 +12,7 @@ pub enum Next {
 }
 
 // What working a record answers: the book after it, and how many bytes were written.
-#[derive(Drop)]
+#[derive(Clone, Copy)]
 pub struct Worked {
     pub book: Book,
     pub written: usize,
@@ -22,7 +22,7 @@ pub struct Worked {
 // were worked, how many bytes of the output were written, whether a 5 has ended the stream, and whether the output is full: it has no room
 // for another record behind what was written.
 #[repr(C)]
-#[derive(Drop)]
+#[derive(Clone, Copy)]
 pub struct Served {
     pub number: u16,
     pub book: Book,

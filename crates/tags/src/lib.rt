@@ -14,7 +14,7 @@ const OPENER: [u8; 10] = *b"{98A:CNTR/";
 
 // What the Contract Date tag says: there is no opener; there are several; no } follows; it follows at once; what it holds is not a date;
 // the date.
-#[derive(Drop)]
+#[derive(Clone, Copy)]
 pub enum Tag {
     Absent,
     Several,
@@ -25,7 +25,7 @@ pub enum Tag {
 }
 
 // How many openers a line has, and the place of the first, 0 where there is none.
-#[derive(Drop)]
+#[derive(Clone, Copy)]
 struct Found {
     count: usize,
     first: usize,

@@ -11,7 +11,7 @@ use records::{
 
 // What reading a transfer answers: its number, 0 or 5, its fields and its two lines of free text, all zero where it is refused.
 #[repr(C)]
-#[derive(Drop)]
+#[derive(Clone, Copy)]
 pub struct TransferReading {
     pub number: u16,
     pub transfer: Transfer,
@@ -21,7 +21,7 @@ pub struct TransferReading {
 
 // What reading a claim answers: its number, 0 or 5, and its fields, all zero where it is refused.
 #[repr(C)]
-#[derive(Drop)]
+#[derive(Clone, Copy)]
 pub struct ClaimReading {
     pub number: u16,
     pub claim: Claim,
@@ -29,7 +29,7 @@ pub struct ClaimReading {
 
 // What reading an answer answers: its number, 0 or 5, and its field, zero where it is refused.
 #[repr(C)]
-#[derive(Drop)]
+#[derive(Clone, Copy)]
 pub struct AnswerReading {
     pub number: u16,
     pub answer: Answer,

@@ -7,7 +7,7 @@ use book::Book;
 
 // What a call of the second form replies: its number, and how many claims it wrote.
 #[repr(C)]
-#[derive(Drop)]
+#[derive(Clone, Copy)]
 pub struct Reply {
     pub number: u16,
     pub claims: usize,

@@ -1,0 +1,15 @@
+use Prim.Native.Nat.{◌-◌}
+use lib.ListN.{length}
+use Rattle.book.proofs.Copied.{Copying, copy_start, copy_step, copy_end}
+use borrow.Author.Rules.{rules}
+use native.Mathlib.Omega.{arith}
+use Rattle.book.proofs.copy.Goals as goal
+
+pub loop-w-init : goal.loop-w-init
+loop-w-init c = copy_start _ _ c.requires
+
+pub loop-w-preserved : goal.loop-w-preserved
+loop-w-preserved c = copy_step (search rules) c.loop-w.invariant
+
+pub returns : goal.returns
+returns c = copy_end c.loop-w-test.false c.loop-w.invariant
