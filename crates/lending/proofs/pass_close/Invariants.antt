@@ -1,0 +1,14 @@
+-- The loop keeps that the claims of the securities below s are passed.
+use Prim.Native.Nat.{◌-◌}
+use Rattle.claims.specs.Passes.{Turning, turn_start, turn_free, turn_step, turn_end}
+use Rattle.claims.specs.Turns.{security_claims}
+use Rattle.claims.proofs.Turns.{close_turns}
+use borrow.Author.Rules.{rules}
+use Rattle.lending.proofs.pass_close.Given as goal
+
+abbrev pub invariant-loop-s : goal.invariant-loop-s
+invariant-loop-s l =
+    Turning l.write (λ j. security_claims l.calendar l.tables l.day j l.balances) 16 l.initial.buffer l.buffer 0 l.m l.s
+
+abbrev pub decreases-loop-s : goal.decreases-loop-s
+decreases-loop-s l = 16 - l.s
