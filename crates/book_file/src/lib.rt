@@ -1,4 +1,6 @@
 // The words of book.dat (document 01, section The program claimrun), read from its bytes.
+#![tactic(auto)]
+
 ghost use Rattle.std.specs.Prelude.{◌≡◌, ◌+◌, ◌*◌, ◌≤◌, length, drop};
 ghost use Rattle.book_file.specs.BookFile.{words_in, calendar_in, tables_in, day_in};
 

@@ -4,6 +4,8 @@
 // their Payment Date behind the first that does. Before the memo: of MBS each such row of the last half year. Interim: the rows behind
 // them that it has reached by Record Date. Tables keep their rules, so filled rows come first and both dates rise. A pass with write false
 // counts the claims, one with write true stores them too.
+#![tactic(auto)]
+
 ghost use Rattle.std.specs.Prelude.{◌≡◌, true, ◌&&◌, ◌+◌, ◌-◌, ◌≤◌, ◌<◌, ltb, length};
 ghost use Rattle.days.specs.Days.{is_date};
 ghost use Rattle.securities.specs.Securities.{security_of, frequency_of, row_of};

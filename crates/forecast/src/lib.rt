@@ -1,5 +1,7 @@
 // The cash forecast (document 02, card 10): for one account and one release date, the cents to pay and to receive by a run of claim records,
 // and their difference, as doubles. The definitions are those of the crate cash. Every run is taken, of any length.
+#![tactic(auto)]
+
 ghost use Rattle.std.specs.Prelude.{◌≡◌, cond, not, ◌&&◌, ◌||◌, ◌+◌, ◌≤◌, ◌<◌, min, eqb};
 ghost use Rattle.lists.specs.First.{first_of};
 ghost use Rattle.claims.specs.Written.{claim_size, read_claim};

@@ -2,6 +2,8 @@
 // and date limits and minimum pieces (document 02, cards 5 and 6), with numbers 12 and 13; so a saved book that is carried over (card 8), and
 // one that is marked or left for a mark (card 9).
 // Calendar, tables, balances, limits and pieces are taken in any length where a function gives the number for it.
+#![tactic(auto)]
+
 ghost use Rattle.std.specs.Prelude.{◌≡◌, true, length};
 ghost use Rattle.lists.specs.First.{first_of};
 ghost use Rattle.lists.specs.Sums.{sum};

@@ -1,5 +1,7 @@
 // The loans and repos of transfers (document 01, section Loans; document 02, card 3), the pieces that par comes in (card 6) and the days
 // before lending (card 7): what is posted to the balances, with the numbers 14, 15, 7 and 8 of what can be refused.
+#![tactic(auto)]
+
 ghost use Rattle.std.specs.Prelude.{◌≡◌, true, ◌<◌, length};
 ghost use Rattle.lists.specs.First.{first_of};
 ghost use Rattle.securities.specs.Lent.{good_pieces};
