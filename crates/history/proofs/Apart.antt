@@ -72,4 +72,5 @@ pub every_list_apart : EveryListApart
 unfolding run_by
 every_list_apart calendar tables book balances k [] d w a u = refl
 every_list_apart calendar tables book balances k (call ∷ calls) d w a u =
-    every_list_apart calendar tables _ _ k calls d.1 w a u ∙ every_call_apart calendar tables book balances k call d.0 w a u
+    let now = result calendar tables book balances call in
+    every_list_apart calendar tables now.answer.book now.balances k calls d.1 w a u ∙ every_call_apart calendar tables book balances k call d.0 w a u
