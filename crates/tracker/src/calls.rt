@@ -81,7 +81,7 @@ pub extern "C" fn claim_tracker_transfer(
     claims: &mut [u8],
 ) -> Done
     ensures { Gives calendar.now tables.now book balances.old
-        (published_transfer pieces.now (record { message = message.entry.now; buffer = claims.old }))
+        (published_transfer pieces.now (record { message = message.now; buffer = claims.old }))
         result claims.new balances.new }
 {
     transfers::transfer(calendar, tables, pieces, book, balances, message, claims)
@@ -101,7 +101,7 @@ pub extern "C" fn claim_tracker_transfer_with_limits(
     claims: &mut [u8],
 ) -> Done
     ensures { Gives calendar.now tables.now book balances.old
-        (lent_transfer limits.now pieces.now (record { message = message.entry.now; buffer = claims.old }))
+        (lent_transfer limits.now pieces.now (record { message = message.now; buffer = claims.old }))
         result claims.new balances.new }
 {
     transfers::transfer_with_limits(
@@ -121,7 +121,7 @@ pub extern "C" fn claim_tracker_close(
     claims: &mut [u8],
 ) -> Done
     ensures { Gives calendar.now tables.now book balances.old
-        (Call.close (record { message = message.entry.now; buffer = claims.old })) result claims.new balances.new }
+        (Call.close (record { message = message.now; buffer = claims.old })) result claims.new balances.new }
 {
     closes::close(calendar, tables, book, balances, message, claims)
 }

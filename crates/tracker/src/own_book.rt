@@ -25,7 +25,7 @@ pub extern "C" fn claim_tracker_transfer_in(
     claims: &mut [u8],
 ) -> Reply
     ensures { Gives calendar.now tables.now book.old balances.old
-        (published_transfer pieces.now (record { message = message.entry.now; buffer = claims.old }))
+        (published_transfer pieces.now (record { message = message.now; buffer = claims.old }))
         (together result book.new) claims.new balances.new }
 {
     let d = crate::calls::claim_tracker_transfer(
@@ -49,7 +49,7 @@ pub extern "C" fn claim_tracker_close_in(
     claims: &mut [u8],
 ) -> Reply
     ensures { Gives calendar.now tables.now book.old balances.old
-        (Call.close (record { message = message.entry.now; buffer = claims.old })) (together result book.new)
+        (Call.close (record { message = message.now; buffer = claims.old })) (together result book.new)
         claims.new balances.new }
 {
     let d = crate::calls::claim_tracker_close(calendar, tables, *book, balances, message, claims);
