@@ -14,8 +14,7 @@ pub struct Reply {
 }
 
 // Works a transfer on the caller's own book, as claim_tracker_transfer does on a book by value.
-#[unsafe(no_mangle)]
-pub extern "C" fn claim_tracker_transfer_in(
+pub fn claim_tracker_transfer_in(
     calendar: &[u32],
     tables: &[u32],
     pieces: &[u32],
@@ -39,8 +38,7 @@ pub extern "C" fn claim_tracker_transfer_in(
 }
 
 // Works a close on the caller's own book, as claim_tracker_close does on a book by value.
-#[unsafe(no_mangle)]
-pub extern "C" fn claim_tracker_close_in(
+pub fn claim_tracker_close_in(
     calendar: &[u32],
     tables: &[u32],
     book: &mut Book,
