@@ -246,11 +246,12 @@ fn run_refused(
     let start = loan(1, 1, 2, 1500);
     let thousands = b"start 1,500 in pieces of 1,000";
     let book = run_transfer(
-        rt,
-        second, thousands, calendar, tables, 1000, book, balances, start,
+        rt, second, thousands, calendar, tables, 1000, book, balances, start,
     );
     let nothings = b"start 1,500 in pieces of 0";
-    run_transfer(rt, second, nothings, calendar, tables, 0, book, balances, start)
+    run_transfer(
+        rt, second, nothings, calendar, tables, 0, book, balances, start,
+    )
 }
 
 // Runs the closes of the cases in one form, then the return of the whole balance.
@@ -265,12 +266,18 @@ fn run_closes(
 ) {
     let mut short = [0u8; 34];
     let early = b"close without room";
-    let book = run_close(rt, second, early, calendar, tables, book, balances, &mut short);
-    let book = run_close(rt, second, b"close", calendar, tables, book, balances, claims);
+    let book = run_close(
+        rt, second, early, calendar, tables, book, balances, &mut short,
+    );
+    let book = run_close(
+        rt, second, b"close", calendar, tables, book, balances, claims,
+    );
     print_cents(rt, claims);
     let whole = loan(3, 2, 1, 15000);
     let sevens = b"return 15,000 in pieces of 7";
-    run_transfer(rt, second, sevens, calendar, tables, 7, book, balances, whole);
+    run_transfer(
+        rt, second, sevens, calendar, tables, 7, book, balances, whole,
+    );
 }
 
 // Runs the cases in one form.
@@ -320,6 +327,13 @@ fn main(rt: HostRuntime) {
     let mut own_balances = [0u64; 8192];
     let mut own_claims = [0u8; 70];
     print(&rt, b"the caller's own book\n");
-    run_cases(&rt, true, &calendar, &tables, &mut own_balances, &mut own_claims);
+    run_cases(
+        &rt,
+        true,
+        &calendar,
+        &tables,
+        &mut own_balances,
+        &mut own_claims,
+    );
     print_same(&rt, &balances, &own_balances, &claims, &own_claims);
 }
