@@ -1,6 +1,8 @@
 // Carrying a running book over (document 02, card 8): a book saved with 4,096 balances, those on loan, gets the form with 8,192, repo empty.
 // The definitions stand in specs/, with the form with lending alone; that lists of calls go on as in that form, and that a history counts
 // both sides of the move, is proved in proofs/.
+#![tactic(auto)]
+
 ghost use Rattle.std.specs.Prelude.{◌≡◌};
 ghost use Rattle.history.specs.Results.{left_open};
 ghost use Rattle.carry_over.specs.CarriedOver.{carried};

@@ -1,5 +1,7 @@
 // The close call (document 01, section Close): the day moves to the next open day, and the par on loan and on repo at each Record Date
 // that is crossed gives its claims.
+#![tactic(auto)]
+
 ghost use Rattle.std.specs.Prelude.{◌≡◌, true, length};
 ghost use Rattle.lists.specs.All.{all};
 ghost use Rattle.lists.specs.First.{first_of};

@@ -204,6 +204,8 @@ any_return store n h k = go (is_ended (h.marks k)) (is_mark k) refl
 
 pub every_unset_store : EveryUnsetStore
 every_unset_store store n h [] = tt
-every_unset_store store n h (worked call done buffer balances ∷ turns) = (tt, every_unset_store store n _ turns)
-every_unset_store store n h (mark_set k number words ∷ turns) = (tt, every_unset_store store n _ turns)
-every_unset_store store n h (went_back k done balances ∷ turns) = (any_return store n h k, every_unset_store store n _ turns)
+every_unset_store store n h (worked call done buffer balances ∷ turns) =
+    (tt, every_unset_store store n (followed h (worked call done buffer balances)) turns)
+every_unset_store store n h (mark_set k number words ∷ turns) = (tt, every_unset_store store n (followed h (mark_set k number words)) turns)
+every_unset_store store n h (went_back k done balances ∷ turns) =
+    (any_return store n h k, every_unset_store store n (followed h (went_back k done balances)) turns)

@@ -1,6 +1,8 @@
 // Marks of a book (document 02, card 9): a lent store holds four, each with a day, a count and the balances. One call sets a mark, one goes back
 // to it. The definitions stand in specs/; that after a return the book is that of the history that ended at the mark, and later calls go on
 // from there, is proved in proofs/ of every trial.
+#![tactic(auto)]
+
 ghost use Rattle.std.specs.Prelude.{◌≡◌, true, ◌≤◌, length};
 ghost use Rattle.lists.specs.First.{first_of};
 ghost use Rattle.history.specs.Results.{left_open};

@@ -1,4 +1,6 @@
 // The opening call (document 01, section The book): a day is judged, and the count and all balances are set to zero.
+#![tactic(auto)]
+
 ghost use Rattle.std.specs.Prelude.{◌≡◌};
 ghost use Rattle.history.specs.Results.{left_open, opened};
 

@@ -1,5 +1,7 @@
 // Serves a stream of message records (document 01, section The program claimrun): a run of input bytes is worked record after record into
 // an output buffer. Calendar, tables, book and balances are judged once for a run.
+#![tactic(auto)]
+
 ghost use Rattle.std.specs.Prelude.{◌≡◌, true, false, cond, ◌+◌, ◌*◌, ◌≤◌, length};
 ghost use Rattle.lists.specs.First.{first_of};
 ghost use Rattle.lists.specs.Put.{put};

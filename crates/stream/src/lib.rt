@@ -1,6 +1,8 @@
 // A stream of message records (document 01, section The program claimrun): what is answered to it, and the theorem that it is so however
 // the input is cut into runs. They stand in specs/ and proofs/; here are the types that the definitions name, and the code is in the
 // crate serving.
+#![tactic(auto)]
+
 use book::Book;
 
 // What the input begins with: a whole record with its size, something that may still become one, or something that is none.

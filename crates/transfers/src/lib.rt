@@ -1,6 +1,8 @@
 // The transfer call (document 01, sections Fail claims and Loans; document 02, cards 1, 5, 6 and 7): a message is judged, its par is posted,
 // and its claims are written. Every form is lent the pieces of the securities. The form with limits is lent maximum numbers of Beneficiary
 // Dates too, the form without them keeps the published ones.
+#![tactic(auto)]
+
 ghost use Rattle.std.specs.Prelude.{◌≡◌, true, ◌||◌, leb, length};
 ghost use Rattle.lists.specs.First.{first_of};
 ghost use Rattle.records.specs.MessageRecords.{transfer_kind, transfer_of, reads};
