@@ -3,9 +3,9 @@
     python3 pick_calls.py REFERENCE_FOLDER SEED COUNT FOLDER
 
 makes random calls by the reference's make_calls.py, some of them once more with half a book, with other limits, with other pieces, with
-another saved book, with another store or with another run of claims, and writes COUNT of them to FOLDER/calls.in, with what they should give in FOLDER/calls.expected (the
+another saved book or with another store, and writes COUNT of them to FOLDER/calls.in, with what they should give in FOLDER/calls.expected (the
 format is that of make_calls.py; crates/call_files/src/entries.rt reads it). It takes first calls that show what is wanted (step_files.wanted,
-REPOS, LIMITS, PIECES, MEMO, CARRIED, MARKS and forecasts.WANTED), always the one that shows most of what is left, then likewise calls that show all answers to
+REPOS, LIMITS, PIECES, MEMO, CARRIED and MARKED), always the one that shows most of what is left, then likewise calls that show all answers to
 each kind of call and all parts of wrong length, then others in their order, those with claims first; none with a large claim buffer. It
 prints what the calls cover, and fails where something that is wanted is missing.
 """
@@ -13,7 +13,6 @@ import collections
 import os
 import sys
 
-import forecasts
 import step_files
 
 folder, seed, count, out = sys.argv[1], sys.argv[2], int(sys.argv[3]), sys.argv[4]
@@ -21,7 +20,7 @@ ref, mk, cards, make_calls = step_files.reference_modules(folder, "reference", "
 
 CALLS = ("open", "transfer", "close", "transfer with lists", "carry over", "set a mark", "go back to a mark", "forecast", "explain",
          "transfer on one of several books", "close on one of several books")
-ONE_BOOK, WITH_LISTS, CARRY_OVER, SET_MARK, GO_BACK, FORECAST = (0, 1, 2, 3), 3, 4, 5, 6, 7
+ONE_BOOK, WITH_LISTS, CARRY_OVER, SET_MARK, GO_BACK = (0, 1, 2, 3), 3, 4, 5, 6
 NUMBERS = step_files.in_force(step_files.ANSWERS)
 # What calls show of the words of repos: repo_facts.
 REPOS = {("repos", "cleared", "open")} | {("repos", "half a book", call) for call in CALLS[:4]} | {
@@ -82,7 +81,7 @@ MARKS = {("marked", call, *shown) for call in ("set", "return") for shown in (
     ("marked", "return", 17, "day", name) for name in ("closed day", "last open day", "no date", "past 32 bits")} | {
     ("marked", "return", 17, "saved", name) for name in ("past the limit", "past the limit in the last security", "with itself", "first word",
                                                          "last word")}
-WANTED = step_files.wanted(NUMBERS) | REPOS | LIMITS | PIECES | MEMO | CARRIED | MARKS | forecasts.WANTED
+WANTED = step_files.wanted(NUMBERS) | REPOS | LIMITS | PIECES | MEMO | CARRIED | MARKS
 LARGEST_BUFFER = 4096
 CANDIDATES = 40 * count
 EVERY_DAY = mk.calendar_of(lambda date: True)
@@ -403,8 +402,6 @@ def shown(call, result) -> set:
         facts |= carried_facts(call, result.number, answer)
     if call["kind"] in (SET_MARK, GO_BACK):
         facts |= mark_facts(call, result, answer)
-    if call["kind"] == FORECAST:
-        facts |= forecasts.facts(ref, call, result, answer)
     if call["kind"] == WITH_LISTS:
         facts |= limit_facts(call, result, answer) if call["limits"] is not None else set()
         facts |= piece_facts(call, result, answer)
@@ -574,21 +571,18 @@ def other_marks(call):
 
 
 def once_more(call, is_first):
-    """An accepted call with other arguments; of the carry overs those with par on loan, of the calls with a mark and of the forecasts the first
-    of its kind."""
+    """An accepted call with other arguments; of the carry overs those with par on loan, of the calls with a mark the first of its kind."""
     if call["kind"] in (1, WITH_LISTS):
         yield from other_lists(call, ref.read_record(ref.TRANSFER, call["message"])[1])
     if call["kind"] == CARRY_OVER and any(call["balances"]):
         yield from other_carries(call)
     if call["kind"] in (SET_MARK, GO_BACK) and is_first:
         yield from other_marks(call)
-    if call["kind"] == FORECAST and is_first:
-        yield from forecasts.others(ref, call)
 
 
 def argument_facts(call, result) -> set:
-    """What a call shows of limits, of pieces, of a saved book, of a mark and of a forecast."""
-    return {fact for fact in shown(call, result) if fact[0] in ("limits", "pieces", "carried", "marked", "forecast")}
+    """What a call shows of limits, of pieces, of a saved book and of a mark."""
+    return {fact for fact in shown(call, result) if fact[0] in ("limits", "pieces", "carried", "marked")}
 
 
 def candidates():

@@ -8,7 +8,7 @@ import os
 import struct
 import sys
 
-CARDS = 10                      # the last of document 02's cards in force that changes an answer
+CARDS = 9                       # the last of document 02's cards in force that changes an answer
 # The kinds of steps: the calls, as in files of calls, and what sets calendar and tables, the book, or words of the store.
 OPEN, TRANSFER, CLOSE, LENT_TRANSFER, CARRY_OVER, SET_MARK, GO_BACK = range(7)
 TABLES, BOOK, STORE = 128, 129, 130

@@ -61,7 +61,7 @@ pub fn close_sound(
 ) -> Done
     requires { first_of (book_causes calendar.now tables.now book.day balances.old) ≡ 0 }
     ensures { Gives calendar.now tables.now book balances.old
-        (Call.close (record { message = message.entry.now; buffer = claims.old })) result claims.new balances.new }
+        (Call.close (record { message = message.now; buffer = claims.old })) result claims.new balances.new }
 {
     if let ReadClose::Refused = reading::read_close(message) {
         return book::refused(5, book);
@@ -94,7 +94,7 @@ pub fn close(
     claims: &mut [u8],
 ) -> Done
     ensures { Gives calendar.now tables.now book balances.old
-        (Call.close (record { message = message.entry.now; buffer = claims.old })) result claims.new balances.new }
+        (Call.close (record { message = message.now; buffer = claims.old })) result claims.new balances.new }
 {
     let number = judging::book_number(calendar, tables, book.day, balances);
     if number != 0 {

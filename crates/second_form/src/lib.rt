@@ -1,4 +1,6 @@
 // By-value callers of the second form: each keeps a book of its own, lends it to the call, and returns it as the call leaves it.
+#![tactic(auto)]
+
 ghost use Rattle.history.specs.Calls.{Call, published_transfer};
 ghost use Rattle.history.specs.Results.{Gives};
 
@@ -15,7 +17,7 @@ pub fn transfer_lent(
     claims: &mut [u8],
 ) -> Done
     ensures { Gives calendar.now tables.now book balances.old
-        (published_transfer pieces.now (record { message = message.entry.now; buffer = claims.old }))
+        (published_transfer pieces.now (record { message = message.now; buffer = claims.old }))
         result claims.new balances.new }
 {
     let mut own = book;
@@ -39,7 +41,7 @@ pub fn close_lent(
     claims: &mut [u8],
 ) -> Done
     ensures { Gives calendar.now tables.now book balances.old
-        (Call.close (record { message = message.entry.now; buffer = claims.old })) result claims.new balances.new }
+        (Call.close (record { message = message.now; buffer = claims.old })) result claims.new balances.new }
 {
     let mut own = book;
     let reply = tracker::own_book::claim_tracker_close_in(

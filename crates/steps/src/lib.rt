@@ -1,5 +1,7 @@
 // What the program claimrun does between a read and a write (document 01, section The program claimrun): book.dat is judged and the book
 // opened, then each step works what was read into the output.
+#![tactic(auto)]
+
 ghost use Rattle.std.specs.Prelude.{◌≡◌, not, ◌&&◌, ◌+◌, ◌≤◌, length, take, drop};
 ghost use Rattle.lists.specs.Put.{put};
 ghost use Rattle.stream.specs.Stream.{answer_bytes};

@@ -9,13 +9,7 @@ use book::{Book, Done};
 
 // Opens a book on a day: its count and all balances become zero. Refused, with 1 to 4, it returns day 20000101 and count 0 and leaves
 // the balances.
-#[unsafe(no_mangle)]
-pub extern "C" fn claim_tracker_open(
-    calendar: &[u32],
-    tables: &[u32],
-    balances: &mut [u64],
-    day: u32,
-) -> Done
+pub fn claim_tracker_open(calendar: &[u32], tables: &[u32], balances: &mut [u64], day: u32) -> Done
     ensures { (left_open result balances.new ≡ opened calendar.now tables.now balances.old day)
         × (result.claims ≡ 0) }
 {
@@ -24,8 +18,7 @@ pub extern "C" fn claim_tracker_open(
 
 // Carries over a book saved with 4,096 balances, those on loan: the balances become these, with repo empty. The book comes back as it was
 // given; refused, with 1, 2 or 4, the balances are left.
-#[unsafe(no_mangle)]
-pub extern "C" fn claim_tracker_carry_over(
+pub fn claim_tracker_carry_over(
     calendar: &[u32],
     book: Book,
     saved: &[u64],
@@ -39,8 +32,7 @@ pub extern "C" fn claim_tracker_carry_over(
 
 // Sets a mark, 1 to 4, of a store: its words become 1, day, count and balances, whatever they were. All other words are left; refused, with
 // 1, 2, 4 or 16, all are.
-#[unsafe(no_mangle)]
-pub extern "C" fn claim_tracker_set_mark(
+pub fn claim_tracker_set_mark(
     calendar: &[u32],
     book: Book,
     balances: &[u64],
@@ -54,8 +46,7 @@ pub extern "C" fn claim_tracker_set_mark(
 
 // Goes back to a mark: it returns the book of the mark, and the balances become those of the mark. Refused, with 1, 2, 4, 16 or 17, it returns
 // the book given and leaves the balances.
-#[unsafe(no_mangle)]
-pub extern "C" fn claim_tracker_return_to_mark(
+pub fn claim_tracker_return_to_mark(
     calendar: &[u32],
     book: Book,
     balances: &mut [u64],
@@ -70,8 +61,7 @@ pub extern "C" fn claim_tracker_return_to_mark(
 
 // Works a transfer with the published maximum numbers: judges its par by the pieces of the securities, posts it, and writes its claims from
 // the claim buffer's start. Refused, it returns the first number that applies and the book given, and leaves balances and claim buffer.
-#[unsafe(no_mangle)]
-pub extern "C" fn claim_tracker_transfer(
+pub fn claim_tracker_transfer(
     calendar: &[u32],
     tables: &[u32],
     pieces: &[u32],
@@ -81,7 +71,7 @@ pub extern "C" fn claim_tracker_transfer(
     claims: &mut [u8],
 ) -> Done
     ensures { Gives calendar.now tables.now book balances.old
-        (published_transfer pieces.now (record { message = message.entry.now; buffer = claims.old }))
+        (published_transfer pieces.now (record { message = message.now; buffer = claims.old }))
         result claims.new balances.new }
 {
     transfers::transfer(calendar, tables, pieces, book, balances, message, claims)
@@ -89,8 +79,7 @@ pub extern "C" fn claim_tracker_transfer(
 
 // Works a transfer as claim_tracker_transfer does, with the date limits that it is lent: maximum numbers of Beneficiary Dates for MBS, then
 // monthly, quarterly, semiannual, annual.
-#[unsafe(no_mangle)]
-pub extern "C" fn claim_tracker_transfer_with_limits(
+pub fn claim_tracker_transfer_with_limits(
     calendar: &[u32],
     tables: &[u32],
     limits: &[u32],
@@ -101,7 +90,7 @@ pub extern "C" fn claim_tracker_transfer_with_limits(
     claims: &mut [u8],
 ) -> Done
     ensures { Gives calendar.now tables.now book balances.old
-        (lent_transfer limits.now pieces.now (record { message = message.entry.now; buffer = claims.old }))
+        (lent_transfer limits.now pieces.now (record { message = message.now; buffer = claims.old }))
         result claims.new balances.new }
 {
     transfers::transfer_with_limits(
@@ -111,8 +100,7 @@ pub extern "C" fn claim_tracker_transfer_with_limits(
 
 // Works a close: the day moves to the next open day, and the lending and repo claims of the Record Dates crossed are written from the
 // claim buffer's start. Refused, it returns the first number that applies and the book given, and leaves balances and claim buffer.
-#[unsafe(no_mangle)]
-pub extern "C" fn claim_tracker_close(
+pub fn claim_tracker_close(
     calendar: &[u32],
     tables: &[u32],
     book: Book,
@@ -121,7 +109,7 @@ pub extern "C" fn claim_tracker_close(
     claims: &mut [u8],
 ) -> Done
     ensures { Gives calendar.now tables.now book balances.old
-        (Call.close (record { message = message.entry.now; buffer = claims.old })) result claims.new balances.new }
+        (Call.close (record { message = message.now; buffer = claims.old })) result claims.new balances.new }
 {
     closes::close(calendar, tables, book, balances, message, claims)
 }

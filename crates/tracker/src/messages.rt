@@ -50,8 +50,7 @@ fn line_at(message: &[u8], at: usize) -> [u8; 64]
 }
 
 // Reads a transfer from the message's start.
-#[unsafe(no_mangle)]
-pub extern "C" fn claim_tracker_read_transfer(message: &[u8]) -> TransferReading
+pub fn claim_tracker_read_transfer(message: &[u8]) -> TransferReading
     ensures { result ≡ transfer_reading message.now }
 {
     let ReadTransfer::Is(transfer) = reading::read_transfer(message) else {
@@ -78,8 +77,7 @@ pub extern "C" fn claim_tracker_read_transfer(message: &[u8]) -> TransferReading
 }
 
 // Reads a close from the message's start: 0, or 5.
-#[unsafe(no_mangle)]
-pub extern "C" fn claim_tracker_read_close(message: &[u8]) -> u16
+pub fn claim_tracker_read_close(message: &[u8]) -> u16
     ensures { result ≡ (reading close_kind message.now).number }
 {
     match reading::read_close(message) {
@@ -89,8 +87,7 @@ pub extern "C" fn claim_tracker_read_close(message: &[u8]) -> u16
 }
 
 // Reads a claim from the message's start.
-#[unsafe(no_mangle)]
-pub extern "C" fn claim_tracker_read_claim(message: &[u8]) -> ClaimReading
+pub fn claim_tracker_read_claim(message: &[u8]) -> ClaimReading
     ensures { result ≡ claim_reading message.now }
 {
     let ReadClaim::Is(claim) = reading::read_claim(message) else {
@@ -115,8 +112,7 @@ pub extern "C" fn claim_tracker_read_claim(message: &[u8]) -> ClaimReading
 }
 
 // Reads an answer from the message's start.
-#[unsafe(no_mangle)]
-pub extern "C" fn claim_tracker_read_answer(message: &[u8]) -> AnswerReading
+pub fn claim_tracker_read_answer(message: &[u8]) -> AnswerReading
     ensures { result ≡ answer_reading message.now }
 {
     let ReadAnswer::Is(answer) = reading::read_answer(message) else {
@@ -139,8 +135,7 @@ fn number_of(wrote: Wrote) -> u16
 }
 
 // Writes a transfer with its two lines of free text to the buffer's start: 0, or 10 for too short a buffer, which is not touched.
-#[unsafe(no_mangle)]
-pub extern "C" fn claim_tracker_write_transfer(
+pub fn claim_tracker_write_transfer(
     buffer: &mut [u8],
     transfer: Transfer,
     first_line: &[u8; 64],
@@ -153,24 +148,21 @@ pub extern "C" fn claim_tracker_write_transfer(
 }
 
 // Writes a close to the buffer's start: 0, or 10 for too short a buffer, which is not touched.
-#[unsafe(no_mangle)]
-pub extern "C" fn claim_tracker_write_close(buffer: &mut [u8]) -> u16
+pub fn claim_tracker_write_close(buffer: &mut [u8]) -> u16
     ensures { record { number = result; buffer = buffer.new } ≡ writing close_kind [] [] buffer.old }
 {
     number_of(writing::write_close(buffer))
 }
 
 // Writes a claim to the buffer's start: 0, or 10 for too short a buffer, which is not touched.
-#[unsafe(no_mangle)]
-pub extern "C" fn claim_tracker_write_claim(buffer: &mut [u8], claim: Claim) -> u16
+pub fn claim_tracker_write_claim(buffer: &mut [u8], claim: Claim) -> u16
     ensures { record { number = result; buffer = buffer.new } ≡ writing claim_kind (claim_values claim) [] buffer.old }
 {
     number_of(writing::write_claim(buffer, claim))
 }
 
 // Writes an answer to the buffer's start: 0, or 10 for too short a buffer, which is not touched.
-#[unsafe(no_mangle)]
-pub extern "C" fn claim_tracker_write_answer(buffer: &mut [u8], answer: Answer) -> u16
+pub fn claim_tracker_write_answer(buffer: &mut [u8], answer: Answer) -> u16
     ensures { record { number = result; buffer = buffer.new } ≡ writing answer_kind (answer_values answer) [] buffer.old }
 {
     number_of(writing::write_answer(buffer, answer))

@@ -14,8 +14,7 @@ pub struct Reply {
 }
 
 // Works a transfer on the caller's own book, as claim_tracker_transfer does on a book by value.
-#[unsafe(no_mangle)]
-pub extern "C" fn claim_tracker_transfer_in(
+pub fn claim_tracker_transfer_in(
     calendar: &[u32],
     tables: &[u32],
     pieces: &[u32],
@@ -25,7 +24,7 @@ pub extern "C" fn claim_tracker_transfer_in(
     claims: &mut [u8],
 ) -> Reply
     ensures { Gives calendar.now tables.now book.old balances.old
-        (published_transfer pieces.now (record { message = message.entry.now; buffer = claims.old }))
+        (published_transfer pieces.now (record { message = message.now; buffer = claims.old }))
         (together result book.new) claims.new balances.new }
 {
     let d = crate::calls::claim_tracker_transfer(
@@ -39,8 +38,7 @@ pub extern "C" fn claim_tracker_transfer_in(
 }
 
 // Works a close on the caller's own book, as claim_tracker_close does on a book by value.
-#[unsafe(no_mangle)]
-pub extern "C" fn claim_tracker_close_in(
+pub fn claim_tracker_close_in(
     calendar: &[u32],
     tables: &[u32],
     book: &mut Book,
@@ -49,7 +47,7 @@ pub extern "C" fn claim_tracker_close_in(
     claims: &mut [u8],
 ) -> Reply
     ensures { Gives calendar.now tables.now book.old balances.old
-        (Call.close (record { message = message.entry.now; buffer = claims.old })) (together result book.new)
+        (Call.close (record { message = message.now; buffer = claims.old })) (together result book.new)
         claims.new balances.new }
 {
     let d = crate::calls::claim_tracker_close(calendar, tables, *book, balances, message, claims);

@@ -8,8 +8,7 @@ use stream::Served;
 // Serves a run of input: works its records into the output while there is room for another (65,542 bytes), and stops at one that is not
 // whole yet, or after a 5. With ended, no more input follows. Calendar, tables, book or balances that are not sound get their number 1
 // to 4, and nothing is worked or written.
-#[unsafe(no_mangle)]
-pub extern "C" fn claim_tracker_serve(
+pub fn claim_tracker_serve(
     calendar: &[u32],
     tables: &[u32],
     book: Book,

@@ -98,7 +98,7 @@ fn transfer_read(
     requires { (first_of (lent_book_causes calendar.now tables.now limits.now pieces.now book.day balances.old) ≡ 0)
         × (reads transfer_kind message.now ≡ true) × (t ≡ transfer_of message.now) }
     ensures { Gives calendar.now tables.now book balances.old
-        (lent_transfer limits.now pieces.now (record { message = message.entry.now; buffer = claims.old }))
+        (lent_transfer limits.now pieces.now (record { message = message.now; buffer = claims.old }))
         result claims.new balances.new }
 {
     let tag = tags::tag_on(
@@ -139,7 +139,7 @@ fn sound_with_limits(
 ) -> Done
     requires { first_of (lent_book_causes calendar.now tables.now limits.now pieces.now book.day balances.old) ≡ 0 }
     ensures { Gives calendar.now tables.now book balances.old
-        (lent_transfer limits.now pieces.now (record { message = message.entry.now; buffer = claims.old }))
+        (lent_transfer limits.now pieces.now (record { message = message.now; buffer = claims.old }))
         result claims.new balances.new }
 {
     let ReadTransfer::Is(t) = reading::read_transfer(message) else {
@@ -162,7 +162,7 @@ pub fn transfer_with_limits(
     claims: &mut [u8],
 ) -> Done
     ensures { Gives calendar.now tables.now book balances.old
-        (lent_transfer limits.now pieces.now (record { message = message.entry.now; buffer = claims.old }))
+        (lent_transfer limits.now pieces.now (record { message = message.now; buffer = claims.old }))
         result claims.new balances.new }
 {
     let number = judging::transfer_number(calendar, tables, limits, pieces, book.day, balances);
@@ -185,7 +185,7 @@ pub fn transfer_sound(
 ) -> Done
     requires { first_of (book_causes calendar.now tables.now book.day balances.old) ≡ 0 }
     ensures { Gives calendar.now tables.now book balances.old
-        (published_transfer ones (record { message = message.entry.now; buffer = claims.old }))
+        (published_transfer ones (record { message = message.now; buffer = claims.old }))
         result claims.new balances.new }
 {
     let numbers = MAXIMUM_NUMBERS;
@@ -206,7 +206,7 @@ pub fn transfer(
     claims: &mut [u8],
 ) -> Done
     ensures { Gives calendar.now tables.now book balances.old
-        (published_transfer pieces.now (record { message = message.entry.now; buffer = claims.old }))
+        (published_transfer pieces.now (record { message = message.now; buffer = claims.old }))
         result claims.new balances.new }
 {
     let numbers = MAXIMUM_NUMBERS;

@@ -1,0 +1,6 @@
+-- The number and the buffer are the definition's, by what the writer of records does.
+use borrow.Author.Rules.{rules}
+use Rattle.tracker.proofs.messages.claim_tracker_write_close.Goals as goal
+
+pub returns : goal.returns
+returns c = rw c.number_of.ensures c.write_close.ensures
