@@ -1,7 +1,7 @@
 -- What a transfer claims, in other words: an interim row is one of type 3 or 4 with Record Date ≤ S < Beneficiary Date, and the rows
 -- claimed are those of the table that are eligible or interim, in its order. A row is never both, since an eligible one has
 -- Beneficiary Date ≤ S; so no Beneficiary Date is claimed twice, and a transfer has at most 16 claims.
-use mathlib.Core.Path.{◌≡◌, refl, sym, ap, ap₂, ◌∙◌}
+use mathlib.Core.Path.{◌≡◌, refl, ap, ap₂, ◌∙◌}
 use mathlib.Core.Logic.{◌↔◌}
 use mathlib.Core.Bool.{Bool, true, false, cond, ◌&&◌, ◌||◌}
 use mathlib.Core.List.{List, [], ◌∷◌, ◌++◌, map, map-append}

@@ -1,7 +1,7 @@
 -- In sound tables both dates rise, so the rows that a day has reached by either date come first, and the interim rows stand behind those
 -- that it has reached by Beneficiary Date; factors are in range, those of empty rows too.
 use mathlib.Core.Path.{◌≡◌, refl, ap, ◌∙◌}
-use mathlib.Core.Bool.{Bool, true, false, cond, not, ◌&&◌, and-true, and-false}
+use mathlib.Core.Bool.{Bool, true, false, cond, ◌&&◌, and-true, and-false}
 use mathlib.Core.List.{List, [], ◌∷◌}
 use Prim.Native.Nat.{ℕ, zero, suc, ◌≤◌, ◌<◌}
 use native.Mathlib.Omega.{arith}
@@ -14,7 +14,7 @@ use Rattle.lists.specs.Select.{select}
 use Rattle.days.specs.Days.{is_date}
 use Rattle.securities.specs.Securities.{largest_factor, Row, is_empty, is_filled, good_row, good_rows}
 use Rattle.securities.proofs.Sound.{good_row_lem, none_filled}
-use Rattle.claims.specs.Fails.{is_interim, interim}
+use Rattle.claims.specs.Fails.{is_interim}
 use Rattle.claims.specs.Reached.{leading, date_at, is_reached}
 
 -- ---- leading rows

@@ -1,6 +1,6 @@
 -- Date limits (document 02, card 5) and minimum pieces (card 6) worked out, as rows that compute: each rule kept and broken by one number.
 use mathlib.Core.Path.{◌≡◌, refl}
-use mathlib.Core.Bool.{Bool, true, not, ◌&&◌}
+use mathlib.Core.Bool.{true, not, ◌&&◌}
 use mathlib.Core.List.{List, [], ◌∷◌}
 use Prim.Native.Nat.{ℕ}
 use lib.ListN.{replicate, set}

@@ -1,6 +1,6 @@
 -- A tag on a day in other words: it has the Contract Date that it writes, or it is empty, the day is before the 2023 memo and the date is
 -- the day; it is refused as no date where it holds something else, or is empty on a day from then on.
-use mathlib.Core.Path.{◌≡◌, refl, sym, ap, ◌∙◌}
+use mathlib.Core.Path.{◌≡◌, refl, sym, ap}
 use mathlib.Core.Logic.{◌↔◌, ◌⊎◌, inl, inr}
 use mathlib.Core.Bool.{Bool, true, false, cond}
 use Prim.Native.Nat.{ℕ, ◌≤◌, ◌<◌}
@@ -11,7 +11,7 @@ use Rattle.days.specs.declared.Date.{Date}
 use Rattle.days.specs.MemoDay.{memo_day, before_memo}
 use Rattle.tags.specs.declared.Tag.{Tag}
 use Rattle.tags.specs.declared.Tag.TheVariants.{Absent, Several, Unended, Empty, NotDate, On}
-use Rattle.tags.specs.ContractDateTag.{on_day, tagged, contract_date, is_not_date}
+use Rattle.tags.specs.ContractDateTag.{on_day, contract_date, is_not_date}
 
 -- ---- the code's cases
 

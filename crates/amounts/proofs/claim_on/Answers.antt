@@ -1,7 +1,6 @@
 -- Each field is its callee's, and the type is the first word of the security.
 use Rattle.claims.specs.Amounts.{cents_for}
 use Rattle.claims.proofs.Making.{made}
-use borrow.Author.Rules.{rules}
 use Rattle.amounts.proofs.claim_on.Goals as goal
 
 pub returns : goal.returns

@@ -1,6 +1,5 @@
 -- A claim type that is not tracked decides; else the word does.
 use mathlib.Core.Path.{sym, ◌∙◌}
-use borrow.Author.Rules.{rules}
 use Rattle.amounts.proofs.is_redeemed.Goals as goal
 
 pub returns-then-is_tracked : goal.returns-then-is_tracked

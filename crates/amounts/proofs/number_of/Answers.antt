@@ -1,6 +1,5 @@
 -- Each case of a search's answer has its number.
 use Rattle.days.specs.Days.{day_number}
-use borrow.Author.Rules.{rules}
 use Rattle.amounts.proofs.number_of.Goals as goal
 
 pub returns-in-On : goal.returns-in-On

@@ -4,7 +4,6 @@ use borrow.Author.Tests.{eq-eqb, ne_eqb}
 use Rattle.days.specs.Days.{bit_on}
 use Rattle.securities.specs.Securities.{row_of}
 use Rattle.claims.specs.Amounts.{outcome_of}
-use borrow.Author.Rules.{rules}
 use Rattle.amounts.proofs.outcome.Goals as goal
 
 pub returns-then-is_nothing : goal.returns-then-is_nothing

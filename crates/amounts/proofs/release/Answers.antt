@@ -5,7 +5,6 @@ use Rattle.days.specs.Days.{day_number}
 use Rattle.days.proofs.OpenDays.{day_number_lem}
 use Rattle.securities.specs.Securities.{row_of}
 use Rattle.claims.specs.Amounts.{is_late, release_of}
-use borrow.Author.Rules.{rules}
 use Rattle.amounts.proofs.release.Goals as goal
 
 pub returns-then-outcome-ne-SETTLE : goal.returns-then-outcome-ne-SETTLE

@@ -3,7 +3,6 @@ use mathlib.Core.Path.{sym, ◌∙◌}
 use borrow.Author.Tests.{eq-eqb, ne_eqb}
 use Rattle.securities.specs.Securities.{row_of}
 use Rattle.claims.specs.Amounts.{is_late, slot_of}
-use borrow.Author.Rules.{rules}
 use Rattle.amounts.proofs.slot.Goals as goal
 
 pub returns-then-outcome-ne-SETTLE : goal.returns-then-outcome-ne-SETTLE

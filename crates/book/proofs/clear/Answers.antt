@@ -1,6 +1,4 @@
-use Prim.Native.Nat.{◌-◌}
-use lib.ListN.{length}
-use Rattle.book.proofs.Posted.{Clearing, clear_start, clear_step, clear_end}
+use Rattle.book.proofs.Posted.{clear_start, clear_step, clear_end}
 use borrow.Author.Rules.{rules}
 use Rattle.book.proofs.clear.Goals as goal
 

@@ -1,8 +1,7 @@
 -- `clear` stores a zero in every word: after i turns the first i are zero and the rest as they were.
 use Prim.Native.Nat.{◌-◌}
 use lib.ListN.{length}
-use Rattle.book.proofs.Posted.{Clearing, clear_start, clear_step, clear_end}
-use borrow.Author.Rules.{rules}
+use Rattle.book.proofs.Posted.{Clearing}
 use Rattle.book.proofs.clear.Given as goal
 
 abbrev pub invariant-loop-i : goal.invariant-loop-i

@@ -1,8 +1,5 @@
-use Prim.Native.Nat.{◌-◌}
-use lib.ListN.{length}
-use Rattle.book.proofs.Copied.{Copying, copy_start, copy_step, copy_end}
+use Rattle.book.proofs.Copied.{copy_start, copy_step, copy_end}
 use borrow.Author.Rules.{rules}
-use native.Mathlib.Omega.{arith}
 use Rattle.book.proofs.copy.Goals as goal
 
 pub loop-w-init : goal.loop-w-init

@@ -1,9 +1,7 @@
 -- `copy` stores the words in order.
 use Prim.Native.Nat.{◌-◌}
 use lib.ListN.{length}
-use Rattle.book.proofs.Copied.{Copying, copy_start, copy_step, copy_end}
-use borrow.Author.Rules.{rules}
-use native.Mathlib.Omega.{arith}
+use Rattle.book.proofs.Copied.{Copying}
 use Rattle.book.proofs.copy.Given as goal
 
 abbrev pub invariant-loop-w : goal.invariant-loop-w

@@ -1,6 +1,5 @@
 use mathlib.Core.Path.{sym, ◌∙◌}
-use Prim.Native.Nat.{◌-◌}
-use Rattle.days.proofs.Months.{Yearly, year_start, year_bad, year_next, year_end}
+use Rattle.days.proofs.Months.{year_start, year_bad, year_next, year_end}
 use borrow.Author.Rules.{rules}
 use Rattle.days.proofs.bad_calendar.Goals as goal
 

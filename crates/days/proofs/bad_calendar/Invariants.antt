@@ -1,8 +1,6 @@
 -- The loop keeps that the words from year y on decide.
-use mathlib.Core.Path.{sym, ◌∙◌}
 use Prim.Native.Nat.{◌-◌}
-use Rattle.days.proofs.Months.{Yearly, year_start, year_bad, year_next, year_end}
-use borrow.Author.Rules.{rules}
+use Rattle.days.proofs.Months.{Yearly}
 use Rattle.days.proofs.bad_calendar.Given as goal
 
 abbrev pub invariant-loop-y : goal.invariant-loop-y

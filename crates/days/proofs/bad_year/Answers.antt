@@ -1,7 +1,7 @@
 use mathlib.Core.Path.{◌∙◌}
-use Prim.Native.Nat.{◌+◌, ◌-◌, ◌*◌}
+use Prim.Native.Nat.{◌+◌}
 use Rattle.days.proofs.Lengths.{length_le}
-use Rattle.days.proofs.Months.{Judging, judge_start, judge_bad, judge_next, judge_end, year_length}
+use Rattle.days.proofs.Months.{judge_start, judge_bad, judge_next, judge_end, year_length}
 use borrow.Author.Rules.{rules}
 use native.Mathlib.Omega.{arith}
 use Rattle.days.proofs.bad_year.Goals as goal

@@ -1,7 +1,6 @@
 -- The arithmetic is the definition's.
 use mathlib.Core.Path.{refl}
 use Rattle.days.specs.Days.{date_of}
-use borrow.Author.Rules.{rules}
 use Rattle.days.proofs.date_of.Goals as goal
 
 pub returns : goal.returns

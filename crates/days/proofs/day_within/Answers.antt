@@ -3,7 +3,6 @@ use mathlib.Core.Path.{ap, ◌∙◌}
 use Prim.Native.Nat.{ℕ, ◌+◌, ◌*◌}
 use native.Mathlib.Omega.{arith}
 use Rattle.days.proofs.HalfYear.{within_day, within_last}
-use borrow.Author.Rules.{rules}
 use Rattle.days.proofs.day_within.Goals as goal
 
 pub returns-then-d-last : goal.returns-then-d-last

@@ -1,7 +1,6 @@
 -- A date's bit is read from its month's word; what is no date is not open.
 use Rattle.days.specs.Days.{is_open, bit_on}
 use Rattle.days.proofs.Parts.{parts, is_date_lem, not_date}
-use borrow.Author.Rules.{rules}
 use native.Mathlib.Omega.{arith}
 use Rattle.days.proofs.is_open.Goals as goal
 

@@ -2,8 +2,7 @@ use mathlib.Core.Path.{ap, ◌∙◌}
 use Prim.Native.Nat.{◌-◌}
 use Rattle.days.specs.Days.{as_day}
 use Rattle.days.proofs.Bits.{highest_led, positive}
-use Rattle.days.proofs.Months.{Falling, fall_start, fall_here, fall_next, fall_end}
-use borrow.Author.Rules.{rules}
+use Rattle.days.proofs.Months.{fall_start, fall_here, fall_next, fall_end}
 use native.Mathlib.Omega.{arith}
 use Rattle.days.proofs.last_open.Goals as goal
 

@@ -1,7 +1,6 @@
 -- In the years 2000 to 2039 every fourth has the leap day.
 use native.Mathlib.Omega.{arith}
 use Rattle.days.proofs.Lengths.{leap_fourth}
-use borrow.Author.Rules.{rules}
 use Rattle.days.proofs.leap_day.Goals as goal
 
 pub returns : goal.returns

@@ -1,6 +1,5 @@
 -- The bits to skip are the definition's.
 use Rattle.days.specs.Days.{open_after}
-use borrow.Author.Rules.{rules}
 use Rattle.days.proofs.open_after.Goals as goal
 
 pub returns : goal.returns

@@ -2,7 +2,6 @@
 use mathlib.Core.Path.{ap, ◌∙◌}
 use Rattle.days.specs.Days.{as_day, open_at}
 use Rattle.days.proofs.Parts.{parts, is_date_lem, not_date}
-use borrow.Author.Rules.{rules}
 use native.Mathlib.Omega.{arith}
 use Rattle.days.proofs.open_at.Goals as goal
 

@@ -1,7 +1,4 @@
-use mathlib.Core.Path.{◌≡◌, refl, sym, ◌∙◌}
-use Prim.Native.Nat.{◌-◌, ◌<◌}
-use lib.ListN.{length, drop}
-use Rattle.days.specs.Days.{seek_from}
+use mathlib.Core.Path.{refl, sym, ◌∙◌}
 use Rattle.days.proofs.Months.{seek_here, seek_next, seek_end}
 use borrow.Author.Rules.{rules}
 use Rattle.days.proofs.seek.Goals as goal

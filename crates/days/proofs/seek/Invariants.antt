@@ -1,10 +1,8 @@
 -- The loop keeps that the search from the present word on gives the answer.
-use mathlib.Core.Path.{◌≡◌, refl, sym, ◌∙◌}
+use mathlib.Core.Path.{◌≡◌}
 use Prim.Native.Nat.{◌-◌, ◌<◌}
 use lib.ListN.{length, drop}
 use Rattle.days.specs.Days.{seek_from}
-use Rattle.days.proofs.Months.{seek_here, seek_next, seek_end}
-use borrow.Author.Rules.{rules}
 use Rattle.days.proofs.seek.Given as goal
 
 abbrev pub invariant-loop-m : goal.invariant-loop-m

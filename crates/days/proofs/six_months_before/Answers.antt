@@ -3,7 +3,6 @@ use mathlib.Core.Path.{◌∙◌}
 use native.Mathlib.Omega.{arith}
 use Rattle.days.proofs.Parts.{parts}
 use Rattle.days.proofs.HalfYear.{half_later, half_earlier}
-use borrow.Author.Rules.{rules}
 use Rattle.days.proofs.six_months_before.Goals as goal
 
 pub day_within-requires : goal.day_within-requires

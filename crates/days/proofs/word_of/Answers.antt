@@ -2,7 +2,6 @@
 use mathlib.Core.Path.{refl}
 use Rattle.days.specs.Days.{word_of}
 use Rattle.days.proofs.Parts.{parts, word_lt}
-use borrow.Author.Rules.{rules}
 use native.Mathlib.Omega.{arith}
 use Rattle.days.proofs.word_of.Goals as goal
 

@@ -1,6 +1,5 @@
 -- The test of the code is the definition's.
 use Rattle.claims.specs.Reached.{after_both}
-use borrow.Author.Rules.{rules}
 use borrow.Author.Tests.{lt-ltb, le-ltb}
 use Rattle.fails.proofs.after_both.Goals as goal
 

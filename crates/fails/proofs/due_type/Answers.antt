@@ -6,7 +6,6 @@ use Rattle.securities.specs.Securities.{row_of}
 use Rattle.claims.specs.Fails.{waits}
 use Rattle.claims.specs.Reached.{is_kept_by}
 use Rattle.fails.specs.Recent.{due_type}
-use borrow.Author.Rules.{rules}
 use Rattle.fails.proofs.due_type.Goals as goal
 
 pub returns-then-rows-index : goal.returns-then-rows-index

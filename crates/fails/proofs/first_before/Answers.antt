@@ -2,7 +2,6 @@
 use mathlib.Core.Path.{sym, ap, ◌∙◌}
 use Rattle.claims.specs.Fails.{is_mbs}
 use Rattle.fails.proofs.Claimed.{first_mbs, first_other}
-use borrow.Author.Rules.{rules}
 use Rattle.fails.proofs.first_before.Goals as goal
 
 pub returns-then-is_mbs : goal.returns-then-is_mbs

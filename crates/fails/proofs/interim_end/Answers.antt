@@ -1,7 +1,6 @@
 -- Only MBS has interim rows; they are those behind the reached ones that the day has reached by Record Date.
 use mathlib.Core.Path.{sym, ap, ◌∙◌, subst⁻¹}
 use Prim.Native.Nat.{ℕ, ◌≤◌}
-use borrow.Author.Tests.{not-true, not-false}
 use Rattle.claims.specs.Fails.{is_mbs}
 use Rattle.claims.proofs.Reached.{few_reached}
 use Rattle.claims.proofs.RowLoops.{end_other, end_mbs}

@@ -1,7 +1,6 @@
 -- The limits stand in the order of the definition: that of MBS, then one for each frequency.
 use mathlib.Core.Path.{sym, ◌∙◌}
 use Rattle.claims.specs.Fails.{maximum_for}
-use borrow.Author.Rules.{rules}
 use Rattle.fails.proofs.maximum_for.Goals as goal
 
 pub returns-then-is_mbs : goal.returns-then-is_mbs

@@ -1,6 +1,5 @@
 -- No claim, or one, which is counted or stored.
 use mathlib.Core.Path.{refl}
-use borrow.Author.Tests.{not-true, not-false}
 use Rattle.claims.specs.Passes.{passed_nothing, passed_count, passed_store, room_one}
 use Rattle.claims.proofs.RowLoops.{claimable}
 use Rattle.fails.proofs.Due.{due_none, due_one}

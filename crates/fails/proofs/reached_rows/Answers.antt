@@ -1,5 +1,4 @@
-use Prim.Native.Nat.{◌-◌}
-use Rattle.claims.proofs.RowLoops.{Reaching, reach_start, reach_empty, reach_later, reach_next, reach_end}
+use Rattle.claims.proofs.RowLoops.{reach_start, reach_empty, reach_later, reach_next, reach_end}
 use borrow.Author.Rules.{rules}
 use Rattle.fails.proofs.reached_rows.Goals as goal
 

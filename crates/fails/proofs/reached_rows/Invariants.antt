@@ -1,7 +1,6 @@
 -- The loop keeps that the rows from the first one up to i are reached and those from i on decide.
 use Prim.Native.Nat.{◌-◌}
-use Rattle.claims.proofs.RowLoops.{Reaching, reach_start, reach_empty, reach_later, reach_next, reach_end}
-use borrow.Author.Rules.{rules}
+use Rattle.claims.proofs.RowLoops.{Reaching}
 use Rattle.fails.proofs.reached_rows.Given as goal
 
 abbrev pub invariant-loop-i : goal.invariant-loop-i

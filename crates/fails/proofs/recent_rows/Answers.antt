@@ -1,19 +1,13 @@
 -- Another tracking code has no rows; without a tag the first row is behind the reached ones, with one the day chooses the rule.
 use mathlib.Core.Path.{◌≡◌, refl, sym, ◌∙◌}
 use mathlib.Core.Bool.{false}
-use mathlib.Core.Logic.{⊎_elim}
-use mathlib.Core.List.{[], ◌∷◌}
-use denote.Enum.Declared.{tag_of}
-use types.Run.{OneOf}
 use Rattle.days.specs.declared.Date.{Date}
 use Rattle.tags.specs.declared.Tag.{Tag}
 use Rattle.tags.specs.declared.Tag.TheVariants.{Absent, Several, Unended, Empty, NotDate, On}
 use Rattle.tags.specs.ContractDateTag.{tagged}
-use Rattle.tags.specs.contracts.Tag.{the_type}
 use Rattle.claims.specs.Reached.{reached_rows}
 use Rattle.fails.proofs.Claimed.{rows_by_code, rows_untagged, rows_earlier, rows_later}
 use borrow.Author.Rules.{rules}
-use native.Mathlib.Omega.{arith}
 use Rattle.fails.proofs.recent_rows.Goals as goal
 
 -- a tag with no date

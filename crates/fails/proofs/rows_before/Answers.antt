@@ -1,7 +1,6 @@
 -- Each field is the definition's.
 use mathlib.Core.Path.{refl}
 use Rattle.fails.specs.Recent.{rows_before}
-use borrow.Author.Rules.{rules}
 use Rattle.fails.proofs.rows_before.Goals as goal
 
 pub returns : goal.returns

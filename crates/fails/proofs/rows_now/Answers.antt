@@ -3,7 +3,6 @@ use mathlib.Core.Path.{refl, ap₂, subst⁻¹, ◌∙◌}
 use Prim.Native.Nat.{ℕ, ◌≤◌}
 use Rattle.claims.specs.Fails.{maximum_for, maximum_of}
 use Rattle.fails.specs.Recent.{rows_now}
-use borrow.Author.Rules.{rules}
 use Rattle.fails.proofs.rows_now.Goals as goal
 
 pub maximum_for-maximum-requires : goal.maximum_for-maximum-requires

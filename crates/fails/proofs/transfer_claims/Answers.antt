@@ -1,7 +1,5 @@
-use Prim.Native.Nat.{◌+◌, ◌-◌}
-use Rattle.claims.specs.Reached.{row_at}
-use Rattle.claims.proofs.RowLoops.{Passing, passing_start, passing_now, passing_more, passing_end}
-use Rattle.fails.specs.Recent.{due_claim, recent_claims}
+use Rattle.claims.proofs.RowLoops.{passing_start, passing_now, passing_more, passing_end}
+use Rattle.fails.specs.Recent.{recent_claims}
 use borrow.Author.Rules.{rules}
 use Rattle.fails.proofs.transfer_claims.Goals as goal
 

@@ -1,9 +1,8 @@
 -- The loop keeps that the pass over the first j rows is made.
 use Prim.Native.Nat.{◌+◌, ◌-◌}
 use Rattle.claims.specs.Reached.{row_at}
-use Rattle.claims.proofs.RowLoops.{Passing, passing_start, passing_now, passing_more, passing_end}
-use Rattle.fails.specs.Recent.{due_claim, recent_claims}
-use borrow.Author.Rules.{rules}
+use Rattle.claims.proofs.RowLoops.{Passing}
+use Rattle.fails.specs.Recent.{due_claim}
 use Rattle.fails.proofs.transfer_claims.Given as goal
 
 abbrev pub invariant-loop-j : goal.invariant-loop-j

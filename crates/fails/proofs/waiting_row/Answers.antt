@@ -1,9 +1,8 @@
 use mathlib.Core.Path.{sym, ap, ◌∙◌, subst⁻¹}
-use Prim.Native.Nat.{ℕ, ◌-◌, ◌≤◌}
-use borrow.Author.Tests.{not-true, not-false}
+use Prim.Native.Nat.{ℕ, ◌≤◌}
 use Rattle.claims.specs.Fails.{is_mbs}
 use Rattle.claims.proofs.Reached.{few_reached}
-use Rattle.claims.proofs.RowLoops.{Seeking, seek_start, seek_found, seek_next, seek_end, waiting_other, waiting_mbs}
+use Rattle.claims.proofs.RowLoops.{seek_start, seek_found, seek_next, seek_end, waiting_other, waiting_mbs}
 use borrow.Author.Rules.{rules}
 use Rattle.fails.proofs.waiting_row.Goals as goal
 

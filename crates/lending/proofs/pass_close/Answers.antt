@@ -1,5 +1,4 @@
-use Prim.Native.Nat.{◌-◌}
-use Rattle.claims.specs.Passes.{Turning, turn_start, turn_free, turn_end}
+use Rattle.claims.specs.Passes.{turn_start, turn_free, turn_end}
 use Rattle.claims.proofs.Passes.{turn_step}
 use Rattle.claims.specs.Turns.{security_claims}
 use Rattle.claims.proofs.Turns.{close_turns}

@@ -1,10 +1,7 @@
 -- The loop keeps that the claims of the securities below s are passed.
 use Prim.Native.Nat.{◌-◌}
-use Rattle.claims.specs.Passes.{Turning, turn_start, turn_free, turn_end}
-use Rattle.claims.proofs.Passes.{turn_step}
+use Rattle.claims.specs.Passes.{Turning}
 use Rattle.claims.specs.Turns.{security_claims}
-use Rattle.claims.proofs.Turns.{close_turns}
-use borrow.Author.Rules.{rules}
 use Rattle.lending.proofs.pass_close.Given as goal
 
 abbrev pub invariant-loop-s : goal.invariant-loop-s

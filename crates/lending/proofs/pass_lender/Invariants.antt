@@ -3,11 +3,7 @@ use Prim.Native.Nat.{◌-◌}
 use lib.ListN.{get_or}
 use Rattle.securities.specs.Securities.{row_of}
 use Rattle.claims.specs.Close.{loan_parties, loan_claim}
-use Rattle.claims.specs.Passes.{Turning, turn_start, turn_free, turn_end}
-use Rattle.claims.proofs.Passes.{turn_step}
-use Rattle.claims.specs.Turns.{lender_claims}
-use Rattle.claims.proofs.Turns.{small_at}
-use borrow.Author.Rules.{rules}
+use Rattle.claims.specs.Passes.{Turning}
 use Rattle.lending.proofs.pass_lender.Given as goal
 
 abbrev pub invariant-loop-b : goal.invariant-loop-b

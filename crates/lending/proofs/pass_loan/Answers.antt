@@ -1,7 +1,6 @@
 -- No par gives no claim; else one is counted, or stored at its place.
 use mathlib.Core.Path.{ap, ◌∙◌}
 use Prim.Native.Nat.{◌*◌}
-use borrow.Author.Tests.{not-true, not-false}
 use Rattle.lists.specs.Put.{put}
 use Rattle.records.specs.declared.Claim.{Claim}
 use Rattle.securities.specs.Securities.{row_of}

@@ -1,14 +1,9 @@
 -- The loop keeps that the claims of the lenders below l are passed; each is handed its part of the balances.
-use mathlib.Core.Path.{◌≡◌}
-use Prim.Native.Nat.{◌+◌, ◌-◌, ◌*◌}
-use Rattle.lists.specs.Fields.{part, part_length}
+use Prim.Native.Nat.{◌-◌, ◌*◌}
+use Rattle.lists.specs.Fields.{part}
 use Rattle.securities.specs.Securities.{row_of}
-use Rattle.claims.specs.Passes.{Turning, turn_start, turn_free, turn_end}
-use Rattle.claims.proofs.Passes.{turn_step}
+use Rattle.claims.specs.Passes.{Turning}
 use Rattle.claims.specs.Turns.{lender_claims}
-use Rattle.claims.proofs.Turns.{tracking_turn, small_part}
-use borrow.Author.Rules.{rules}
-use native.Mathlib.Omega.{arith}
 use Rattle.lending.proofs.pass_tracking.Given as goal
 
 abbrev pub invariant-loop-l : goal.invariant-loop-l

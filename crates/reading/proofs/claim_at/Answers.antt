@@ -1,6 +1,5 @@
 -- `claim_at` gives the claim that stands in the bytes, field by field.
 use Rattle.records.proofs.Readings.{claim_fields}
-use borrow.Author.Rules.{rules}
 use Rattle.reading.proofs.claim_at.Goals as goal
 
 pub returns : goal.returns

@@ -2,7 +2,7 @@ use Prim.Native.Nat.{◌+◌, ◌-◌}
 use native.Mathlib.Omega.{arith}
 use borrow.Author.Rules.{rules}
 use lib.Dec.{lit<}
-use Rattle.reading.proofs.Loops.{Getting, get_start, get_step, get_end, get_fits}
+use Rattle.reading.proofs.Loops.{get_start, get_step, get_end, get_fits}
 use Rattle.reading.proofs.number_at.Goals as goal
 
 pub loop-i-init : goal.loop-i-init

@@ -1,9 +1,5 @@
 -- `number_at` gives the number of the bytes. The loop goes from the highest byte down, so a turn is one step of `number_of`.
-use Prim.Native.Nat.{◌+◌, ◌-◌}
-use native.Mathlib.Omega.{arith}
-use borrow.Author.Rules.{rules}
-use lib.Dec.{lit<}
-use Rattle.reading.proofs.Loops.{Getting, get_start, get_step, get_end, get_fits}
+use Rattle.reading.proofs.Loops.{Getting}
 use Rattle.reading.proofs.number_at.Given as goal
 
 abbrev pub invariant-loop-i : goal.invariant-loop-i

@@ -2,7 +2,6 @@
 use mathlib.Core.Path.{sym, ◌∙◌}
 use native.Mathlib.Omega.{arith}
 use Rattle.records.proofs.Readings.{headed_size, answer_read, answer_refused, answer_field}
-use borrow.Author.Rules.{rules}
 use Rattle.reading.proofs.read_answer.Goals as goal
 
 pub u16_at-requires : goal.u16_at-requires

@@ -2,7 +2,6 @@
 use mathlib.Core.Path.{sym, ◌∙◌}
 use native.Mathlib.Omega.{arith}
 use Rattle.records.proofs.Readings.{headed_size, claim_read, claim_refused}
-use borrow.Author.Rules.{rules}
 use Rattle.reading.proofs.read_claim.Goals as goal
 
 pub claim_at-requires : goal.claim_at-requires

@@ -1,7 +1,6 @@
 -- `read_close` answers as the definition: the header decides.
 use mathlib.Core.Path.{sym, ◌∙◌}
 use Rattle.records.proofs.Readings.{close_read, close_refused}
-use borrow.Author.Rules.{rules}
 use Rattle.reading.proofs.read_close.Goals as goal
 
 pub returns-then-is_headed : goal.returns-then-is_headed

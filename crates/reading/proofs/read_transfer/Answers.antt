@@ -2,7 +2,6 @@
 use mathlib.Core.Path.{sym, ◌∙◌}
 use native.Mathlib.Omega.{arith}
 use Rattle.records.proofs.Readings.{headed_size, transfer_read, transfer_refused}
-use borrow.Author.Rules.{rules}
 use Rattle.reading.proofs.read_transfer.Goals as goal
 
 pub transfer_at-requires : goal.transfer_at-requires

@@ -1,6 +1,5 @@
 -- `transfer_at` gives the transfer that stands in the bytes, field by field.
 use Rattle.records.proofs.Readings.{transfer_fields}
-use borrow.Author.Rules.{rules}
 use Rattle.reading.proofs.transfer_at.Goals as goal
 
 pub returns : goal.returns

@@ -1,9 +1,6 @@
 use mathlib.Core.Path.{sym, ◌∙◌}
-use Prim.Native.Nat.{◌-◌}
-use lib.ListN.{length}
-use borrow.Author.Tests.{not-true, not-false}
 use Rattle.securities.specs.Lent.{from_one_to}
-use Rattle.securities.proofs.Checks.{Tested, tested_start, tested_step, tested_stop, tested_end}
+use Rattle.securities.proofs.Checks.{tested_start, tested_step, tested_stop, tested_end}
 use borrow.Author.Rules.{rules}
 use Rattle.securities.proofs.all_from_one_to.Goals as goal
 

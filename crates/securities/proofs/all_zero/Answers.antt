@@ -1,8 +1,5 @@
-use Prim.Native.Nat.{◌-◌}
-use lib.Dec.{eqb}
-use lib.ListN.{length}
 use borrow.Author.Tests.{eq-eqb, ne_eqb}
-use Rattle.securities.proofs.Checks.{Tested, tested_start, tested_step, tested_stop, tested_end}
+use Rattle.securities.proofs.Checks.{tested_start, tested_step, tested_stop, tested_end}
 use borrow.Author.Rules.{rules}
 use Rattle.securities.proofs.all_zero.Goals as goal
 

@@ -2,9 +2,7 @@
 use Prim.Native.Nat.{◌-◌}
 use lib.Dec.{eqb}
 use lib.ListN.{length}
-use borrow.Author.Tests.{eq-eqb, ne_eqb}
-use Rattle.securities.proofs.Checks.{Tested, tested_start, tested_step, tested_stop, tested_end}
-use borrow.Author.Rules.{rules}
+use Rattle.securities.proofs.Checks.{Tested}
 use Rattle.securities.proofs.all_zero.Given as goal
 
 abbrev pub invariant-loop-w : goal.invariant-loop-w

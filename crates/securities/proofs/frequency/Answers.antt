@@ -1,6 +1,5 @@
 -- `frequency` reads a word of the security.
 use Rattle.securities.proofs.Checks.{frequency_word}
-use borrow.Author.Rules.{rules}
 use Rattle.securities.proofs.frequency.Goals as goal
 
 pub returns : goal.returns

@@ -1,9 +1,8 @@
 -- `good_limits` answers as the definition: one broken rule decides, and where the others are kept the last does.
 use mathlib.Core.Path.{sym, ◌∙◌}
-use borrow.Author.Tests.{eq-eqb, ne_eqb, lt-leb, le-leb, not-true, not-false}
+use borrow.Author.Tests.{eq-eqb, ne_eqb, lt-leb, le-leb}
 use Rattle.securities.specs.Lent.{good_limits}
 use Rattle.securities.proofs.Checks.{no_left, no_right}
-use borrow.Author.Rules.{rules}
 use Rattle.securities.proofs.good_limits.Goals as goal
 
 pub returns-then-limits-ne-LIMIT_WORDS : goal.returns-then-limits-ne-LIMIT_WORDS

@@ -1,8 +1,6 @@
 -- `good_pieces` answers as the definition: the length decides, then the range of every number.
-use mathlib.Core.Path.{sym}
 use borrow.Author.Tests.{eq-eqb, ne_eqb}
 use Rattle.securities.specs.Lent.{good_pieces}
-use borrow.Author.Rules.{rules}
 use Rattle.securities.proofs.good_pieces.Goals as goal
 
 pub returns-then-pieces-ne-PIECE_WORDS : goal.returns-then-pieces-ne-PIECE_WORDS

@@ -1,9 +1,8 @@
 -- `good_row` answers as the definition: one broken rule decides, and where the others are kept the last does.
 use mathlib.Core.Path.{sym, ◌∙◌}
-use borrow.Author.Tests.{lt-leb, not-true, not-false}
+use borrow.Author.Tests.{lt-leb}
 use Rattle.securities.specs.Securities.{row_of, good_row}
 use Rattle.securities.proofs.Checks.{no_left, no_right, last_rule}
-use borrow.Author.Rules.{rules}
 use Rattle.securities.proofs.good_row.Goals as goal
 
 pub returns-then-not-is_date : goal.returns-then-not-is_date

@@ -1,8 +1,6 @@
 use mathlib.Core.Path.{sym, ◌∙◌}
-use Prim.Native.Nat.{◌-◌}
-use borrow.Author.Tests.{le-ltb, not-true, not-false}
-use Rattle.securities.proofs.Checks.{no_left, no_right, Rowed, rows_start, row_length, rows_empty, rows_broken, rows_step, rows_end}
-use borrow.Author.Rules.{rules}
+use borrow.Author.Tests.{le-ltb}
+use Rattle.securities.proofs.Checks.{no_left, no_right, rows_start, row_length, rows_empty, rows_broken, rows_step, rows_end}
 use Rattle.securities.proofs.good_rows.Goals as goal
 
 pub loop-i-init : goal.loop-i-init

@@ -4,7 +4,6 @@ use borrow.Author.Tests.{lt-leb, eq-eqb}
 use Rattle.lists.specs.Tests.{cond_true}
 use Rattle.securities.specs.Securities.{type_of, good_security}
 use Rattle.securities.proofs.Checks.{no_left, no_right, used, used_rows}
-use borrow.Author.Rules.{rules}
 use Rattle.securities.proofs.good_security.Goals as goal
 
 pub returns-then-security_type-eq0 : goal.returns-then-security_type-eq0

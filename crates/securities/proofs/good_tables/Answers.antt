@@ -1,7 +1,6 @@
 use mathlib.Core.Path.{sym, ◌∙◌}
 use Prim.Native.Nat.{◌-◌}
-use borrow.Author.Tests.{not-true, not-false}
-use Rattle.securities.proofs.Checks.{security_length, Judging, judge_start, judge_bad, judge_next, judge_end}
+use Rattle.securities.proofs.Checks.{security_length, judge_start, judge_bad, judge_next, judge_end}
 use borrow.Author.Rules.{rules}
 use Rattle.securities.proofs.good_tables.Goals as goal
 

@@ -1,7 +1,6 @@
 -- `is_date` answers whether the constructor makes a date.
 use mathlib.Core.Path.{sym}
 use Rattle.days.proofs.Parts.{is_date_lem, not_date}
-use borrow.Author.Rules.{rules}
 use Rattle.securities.proofs.is_date.Goals as goal
 
 pub returns-in-Is : goal.returns-in-Is

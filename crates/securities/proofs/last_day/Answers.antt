@@ -1,7 +1,6 @@
 -- `last_day` gives the number of the day that the search finds, or 0.
 use mathlib.Core.Path.{sym}
 use Rattle.days.proofs.OpenDays.{on_day_lem, no_day}
-use borrow.Author.Rules.{rules}
 use Rattle.securities.proofs.last_day.Goals as goal
 
 pub returns-in-On : goal.returns-in-On

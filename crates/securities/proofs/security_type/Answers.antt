@@ -1,6 +1,5 @@
 -- `security_type` reads a word of the security.
 use Rattle.securities.proofs.Checks.{type_word}
-use borrow.Author.Rules.{rules}
 use Rattle.securities.proofs.security_type.Goals as goal
 
 pub returns : goal.returns

@@ -1,10 +1,9 @@
 use mathlib.Core.Path.{ap}
-use Prim.Native.Nat.{ℕ, ◌+◌, ◌-◌}
+use Prim.Native.Nat.{ℕ, ◌+◌}
 use lib.ListN.{get_or}
-use Rattle.lists.specs.Sums.{Adding, add_start, add_step, add_end}
+use Rattle.lists.specs.Sums.{add_start, add_step, add_end}
 use Rattle.tags.specs.Quick.{brace_of}
 use Rattle.tags.proofs.Quick.{brace_small}
-use borrow.Author.Rules.{rules}
 use native.Mathlib.Omega.{arith}
 use Rattle.tags.proofs.braces.Goals as goal
 

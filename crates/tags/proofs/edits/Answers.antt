@@ -1,7 +1,6 @@
 -- Each case of the tag has its number; a date goes on to its own edits.
 use mathlib.Core.Path.{sym}
 use Rattle.tags.proofs.Causes.{absent_accepted, several_number, unended_number, empty_number, not_date_number}
-use borrow.Author.Rules.{rules}
 use Rattle.tags.proofs.edits.Goals as goal
 
 pub returns-in-Absent : goal.returns-in-Absent

@@ -1,7 +1,4 @@
-use mathlib.Core.Path.{◌≡◌, refl, sym, ◌∙◌}
-use Prim.Native.Nat.{◌-◌, ◌≤◌}
-use lib.ListN.{length}
-use Rattle.tags.specs.ContractDateTag.{end_from}
+use mathlib.Core.Path.{refl, sym, ◌∙◌}
 use Rattle.tags.proofs.Ends.{end_stop, end_go, end_out}
 use borrow.Author.Rules.{rules}
 use Rattle.tags.proofs.end_from.Goals as goal

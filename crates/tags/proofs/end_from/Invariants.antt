@@ -1,10 +1,8 @@
 -- The loop keeps that the first } from the present place on is the one looked for.
-use mathlib.Core.Path.{◌≡◌, refl, sym, ◌∙◌}
+use mathlib.Core.Path.{◌≡◌}
 use Prim.Native.Nat.{◌-◌, ◌≤◌}
 use lib.ListN.{length}
 use Rattle.tags.specs.ContractDateTag.{end_from}
-use Rattle.tags.proofs.Ends.{end_stop, end_go, end_out}
-use borrow.Author.Rules.{rules}
 use Rattle.tags.proofs.end_from.Given as goal
 
 abbrev pub invariant-loop-i : goal.invariant-loop-i

@@ -1,16 +1,6 @@
 -- A tag that is not empty stays; an empty one means a day before the memo.
-use mathlib.Core.Path.{◌≡◌, sym, ◌∙◌}
-use mathlib.Core.List.{[], ◌∷◌}
-use mathlib.Core.Logic.{⊎_elim}
-use denote.Enum.Declared.{tag_of}
-use types.Run.{OneOf}
-use Rattle.tags.specs.declared.Tag.{Tag}
-use Rattle.tags.specs.declared.Tag.TheVariants.{Absent, Several, Unended, Empty, NotDate, On}
-use Rattle.tags.specs.ContractDateTag.{on_day}
-use Rattle.tags.specs.contracts.Tag.{the_type}
+use mathlib.Core.Path.{sym, ◌∙◌}
 use Rattle.tags.proofs.OnDay.{empty_before, empty_later, other_same}
-use borrow.Author.Rules.{rules}
-use native.Mathlib.Omega.{arith}
 use Rattle.tags.proofs.on_day.Goals as goal
 
 pub returns-in_default : goal.returns-in_default

@@ -1,7 +1,7 @@
 use mathlib.Core.Path.{subst⁻¹}
-use Prim.Native.Nat.{◌+◌, ◌-◌, ◌≤◌}
+use Prim.Native.Nat.{◌+◌}
 use Rattle.tags.specs.ContractDateTag.{opener}
-use Rattle.tags.proofs.Openers.{ten_bytes, Comparing, compare_start, compare_stop, compare_go, compare_end, Scanning, scan_start, scan_miss, scan_first, scan_more, scan_count, scan_place}
+use Rattle.tags.proofs.Openers.{ten_bytes, compare_start, compare_stop, compare_go, compare_end, Scanning, scan_start, scan_miss, scan_first, scan_more, scan_count, scan_place}
 use borrow.Author.Rules.{rules}
 use native.Mathlib.Omega.{arith}
 use Rattle.tags.proofs.scan.Goals as goal
@@ -35,7 +35,7 @@ scan-preserved c =
     let e = compare_end c.loop-j.invariant (ten_bytes i line (search rules)) c.loop-j-test.false in
     let F = Scanning line (i + 1) (count + 1) in
     elim c.if-count-eq0.branch [
-      then-count-eq0 w ↦ (search rules, omega arith, subst⁻¹ F w.first-is (scan_first c.scan.invariant.2 (search rules) e w.if-count-eq0.true))
+      | then-count-eq0 w ↦ (search rules, omega arith, subst⁻¹ F w.first-is (scan_first c.scan.invariant.2 (search rules) e w.if-count-eq0.true))
       | else-count-eq0 w ↦ (search rules, omega arith, subst⁻¹ F w.first-is (scan_more c.scan.invariant.2 (search rules) e w.if-count-eq0.false))
     ]
 

@@ -1,11 +1,6 @@
 -- The inner loop keeps that the bytes compared so far are the opener's, the outer one what stands before its place.
-use mathlib.Core.Path.{subst⁻¹}
-use mathlib.Core.Logic.{⊎_elim}
-use Prim.Native.Nat.{◌+◌, ◌-◌, ◌≤◌}
-use Rattle.tags.specs.ContractDateTag.{opener}
-use Rattle.tags.proofs.Openers.{ten_bytes, Comparing, compare_start, compare_stop, compare_go, compare_end, Scanning, scan_start, scan_miss, scan_first, scan_more, scan_count, scan_place}
-use borrow.Author.Rules.{rules}
-use native.Mathlib.Omega.{arith}
+use Prim.Native.Nat.{◌-◌, ◌≤◌}
+use Rattle.tags.proofs.Openers.{Comparing, Scanning}
 use Rattle.tags.proofs.scan.Given as goal
 
 abbrev pub invariant-loop-j : goal.invariant-loop-j

@@ -1,5 +1,4 @@
-use Prim.Native.Nat.{◌-◌, ◌≤◌}
-use Rattle.tags.proofs.Digits.{Reading, read_start, read_room, read_stop, read_step, read_digits, read_number, below_digits, above_digits}
+use Rattle.tags.proofs.Digits.{read_start, read_room, read_stop, read_step, read_digits, read_number, below_digits, above_digits}
 use Rattle.tags.proofs.Answers.{holding_length, holding_other, holding_date, holding_not}
 use borrow.Author.Rules.{rules}
 use native.Mathlib.Omega.{arith}

@@ -1,7 +1,6 @@
 -- The tag of the lines, as the day takes it.
 use mathlib.Core.Path.{ap, ◌∙◌}
 use Rattle.tags.specs.ContractDateTag.{on_day}
-use borrow.Author.Rules.{rules}
 use Rattle.tags.proofs.tag_on.Goals as goal
 
 pub returns : goal.returns

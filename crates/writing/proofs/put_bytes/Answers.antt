@@ -1,7 +1,5 @@
-use Prim.Native.Nat.{◌-◌}
 use borrow.Author.Rules.{rules}
-use lib.ListN.{length}
-use Rattle.writing.proofs.Loops.{Copying, copy_start, copy_step, copy_end}
+use Rattle.writing.proofs.Loops.{copy_start, copy_step, copy_end}
 use Rattle.writing.proofs.put_bytes.Goals as goal
 
 pub loop-i-init : goal.loop-i-init

@@ -1,8 +1,7 @@
 -- `put_bytes` stores the bytes: after i turns the first i stand in the buffer.
 use Prim.Native.Nat.{◌-◌}
-use borrow.Author.Rules.{rules}
 use lib.ListN.{length}
-use Rattle.writing.proofs.Loops.{Copying, copy_start, copy_step, copy_end}
+use Rattle.writing.proofs.Loops.{Copying}
 use Rattle.writing.proofs.put_bytes.Given as goal
 
 abbrev pub invariant-loop-i : goal.invariant-loop-i

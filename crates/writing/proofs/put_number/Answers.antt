@@ -1,6 +1,5 @@
-use Prim.Native.Nat.{◌-◌}
 use borrow.Author.Rules.{rules}
-use Rattle.writing.proofs.Loops.{Putting, put_start, put_step, put_end}
+use Rattle.writing.proofs.Loops.{put_start, put_step, put_end}
 use Rattle.writing.proofs.put_number.Goals as goal
 
 pub loop-i-init : goal.loop-i-init

@@ -1,7 +1,6 @@
 -- `put_number` stores the number's bytes. The loop goes from the lowest byte up, so a turn is one step of `bytes_of`.
 use Prim.Native.Nat.{◌-◌}
-use borrow.Author.Rules.{rules}
-use Rattle.writing.proofs.Loops.{Putting, put_start, put_step, put_end}
+use Rattle.writing.proofs.Loops.{Putting}
 use Rattle.writing.proofs.put_number.Given as goal
 
 abbrev pub invariant-loop-i : goal.invariant-loop-i

@@ -6,7 +6,6 @@ use Rattle.days.specs.Days.{checked, is_date, month_length}
 use Rattle.days.specs.declared.Checked.TheVariants.{Is, Not}
 use Rattle.days.proofs.Lengths.{length_ge}
 use Rattle.days.proofs.Parts.{date_by_length}
-use borrow.Author.Rules.{rules}
 use native.Mathlib.Omega.{arith}
 use Rattle.days.proofs.Date.new.Goals as goal
 
