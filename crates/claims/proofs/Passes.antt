@@ -1,15 +1,11 @@
 -- Theorems on passes that rest on the length of a claim's record.
-use Rattle.std.specs.Prelude.{◌≡◌, refl, Bool, true, false, cond, List, [], ◌∷◌, ◌++◌, ℕ, zero, suc, ◌+◌, ◌-◌, ◌*◌, ◌≤◌, ◌<◌, length, drop}
-use Rattle.std.proofs.Common.{ap, sym, ◌∙◌, subst, true≢false, append_assoc, append-nil, arith, add-zero, add-suc, mul-suc, length-append}
-use Rattle.std.proofs.Math.Numerals.{add-one}
-use Rattle.lists.specs.Put.{put, put_none, put_length, put_start, put_put}
-use Rattle.lists.specs.Numbers.{bytes_of}
-use Rattle.lists.specs.Fields.{encode}
+use Rattle.std.specs.Prelude.{◌≡◌, refl, Bool, true, false, List, [], ◌∷◌, ◌++◌, ℕ, suc, ◌+◌, ◌*◌, ◌≤◌, ◌<◌, length, drop}
+use Rattle.std.proofs.Common.{ap, ◌∙◌, arith, length-append}
+use Rattle.lists.specs.Put.{put_length, put_start, put_put}
 use Rattle.lists.specs.Tabulate.{each}
 use Rattle.records.specs.declared.Claim.{Claim}
-use Rattle.records.specs.MessageRecords.{claim_kind, claim_values, record_bytes}
-use Rattle.claims.specs.Written.{claim_size, claim_bytes, bytes_of_all, written}
-use Rattle.claims.specs.Passes.{claim_length, all_append, place, Free, Passed, free_part, each_more, pass_end, Turning}
+use Rattle.claims.specs.Written.{claim_bytes, bytes_of_all, written}
+use Rattle.claims.specs.Passes.{claim_length, all_append, place, Free, Passed, free_part, each_more, Turning}
 
 pub all_length : (cs : List Claim) → length (bytes_of_all cs) ≡ 35 * length cs
 unfolding bytes_of_all

@@ -1,15 +1,15 @@
 -- A pass over a run of claims: it counts them, and where it writes it stores each as a record behind the last. One set of loops
 -- makes both passes; these are the contracts' words for them, and the laws for a loop that makes one place after the other.
-use Rattle.std.specs.Prelude.{◌≡◌, refl, Bool, true, false, cond, List, [], ◌∷◌, ◌++◌, ℕ, zero, suc, ◌+◌, ◌-◌, ◌*◌, ◌≤◌, ◌<◌, length, drop}
+use Rattle.std.specs.Prelude.{◌≡◌, refl, Bool, true, false, cond, List, [], ◌∷◌, ◌++◌, ℕ, zero, suc, ◌+◌, ◌-◌, ◌*◌, ◌≤◌, ◌<◌, length}
 use Rattle.std.proofs.Common.{ap, sym, ◌∙◌, subst, true≢false, append_assoc, append-nil, arith, add-zero, add-suc, mul-suc, length-append}
 use Rattle.std.proofs.Math.Numerals.{add-one}
-use Rattle.lists.specs.Put.{put, put_none, put_length, put_start, put_put}
+use Rattle.lists.specs.Put.{put, put_none}
 use Rattle.lists.specs.Numbers.{bytes_of}
 use Rattle.lists.specs.Fields.{encode}
 use Rattle.lists.specs.Tabulate.{each}
 use Rattle.records.specs.declared.Claim.{Claim}
 use Rattle.records.specs.MessageRecords.{claim_kind, claim_values, record_bytes}
-use Rattle.claims.specs.Written.{claim_size, claim_bytes, bytes_of_all, written}
+use Rattle.claims.specs.Written.{claim_size, claim_bytes, bytes_of_all}
 
 -- ---- records in a buffer
 

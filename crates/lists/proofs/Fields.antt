@@ -1,7 +1,6 @@
 -- Writing a run of numbers and reading it back: each undoes the other, and what is read fits.
-use Rattle.std.specs.Prelude.{◌≡◌, refl, List, [], ◌∷◌, ◌++◌, ℕ, zero, suc, ◌+◌, ◌^◌, ◌≤◌, ◌<◌, length, take, drop}
-use Rattle.std.proofs.Common.{sym, ap, ap₂, ◌∙◌, subst, append_assoc, arith, length-append, length-take, length-drop, drop-drop, take-take, get_or-drop, get_or-take, take_at, take-add}
-use Rattle.std.proofs.Math.Path.{subst⁻¹}
+use Rattle.std.specs.Prelude.{◌≡◌, refl, List, [], ◌∷◌, ◌++◌, ℕ, ◌+◌, ◌^◌, ◌≤◌, ◌<◌, length, take, drop}
+use Rattle.std.proofs.Common.{sym, ap, ap₂, ◌∙◌, subst, append_assoc, arith, length-append, drop-drop, take_at, take-add}
 use Rattle.std.proofs.Math.Seq.{drop-append_seam}
 use Rattle.lists.specs.Numbers.{bytes_of, number_of, Bytes, bytes_length, number_bytes, bytes_number, number_fits}
 use Rattle.lists.specs.Fields.{part, part_length, part_bytes, total, encode, decode, Fit}

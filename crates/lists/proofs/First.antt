@@ -1,8 +1,7 @@
 -- Theorems that rest on those of a table of causes.
-use Rattle.std.specs.Prelude.{◌≡◌, refl, ◌↔◌, Bool, true, false, cond, ◌&&◌, List, [], ◌∷◌, ◌++◌, ℕ, eqb, ltb}
-use Rattle.std.proofs.Common.{sym, ◌∙◌, arith, ltb-true}
-use Rattle.lists.specs.Tests.{and_left, and_right, and_both}
-use Rattle.lists.specs.First.{Cause, cause, first_of, NoneApplies, numbered, applies_at, none_applies, first_none, cleared_by, first_group, next_group}
+use Rattle.std.specs.Prelude.{◌≡◌, ◌↔◌, true, false, List, ◌++◌, ℕ}
+use Rattle.std.proofs.Common.{sym, ◌∙◌}
+use Rattle.lists.specs.First.{Cause, first_of, NoneApplies, numbered, applies_at, none_applies, first_none, cleared_by, first_group, next_group}
 
 pub accepted : (cs : List Cause) → numbered cs ≡ true → (first_of cs ≡ 0) ↔ NoneApplies cs
 accepted cs t = (none_applies cs t, first_none cs)

@@ -1,9 +1,8 @@
 -- Runs of numbers in bytes, each in a width of its own, and reading them back: the laws hold for every list of widths.
 use Rattle.std.specs.Prelude.{◌≡◌, refl, List, [], ◌∷◌, ◌++◌, ℕ, zero, suc, ◌+◌, ◌^◌, ◌≤◌, ◌<◌, length, take, drop}
-use Rattle.std.proofs.Common.{sym, ap, ap₂, ◌∙◌, subst, append_assoc, arith, length-append, length-take, length-drop, drop-drop, take-take, get_or-drop, get_or-take, take_at, take-add}
+use Rattle.std.proofs.Common.{ap, ap₂, ◌∙◌, subst, arith, length-append, length-take, length-drop, take-take, get_or-drop, get_or-take}
 use Rattle.std.proofs.Math.Path.{subst⁻¹}
-use Rattle.std.proofs.Math.Seq.{drop-append_seam}
-use Rattle.lists.specs.Numbers.{bytes_of, number_of, Bytes, bytes_length, number_bytes, bytes_number, number_fits}
+use Rattle.lists.specs.Numbers.{bytes_of, number_of, Bytes, bytes_length}
 
 -- ---- parts of a list
 

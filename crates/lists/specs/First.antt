@@ -1,6 +1,6 @@
 -- A table of causes with their numbers, and the number of the first that applies.
-use Rattle.std.specs.Prelude.{◌≡◌, refl, ◌↔◌, Bool, true, false, cond, ◌&&◌, List, [], ◌∷◌, ◌++◌, ℕ, eqb, ltb}
-use Rattle.std.proofs.Common.{sym, ◌∙◌, arith, ltb-true}
+use Rattle.std.specs.Prelude.{◌≡◌, refl, Bool, true, false, cond, ◌&&◌, List, [], ◌∷◌, ◌++◌, ℕ, eqb, ltb}
+use Rattle.std.proofs.Common.{arith, ltb-true}
 use Rattle.lists.specs.Tests.{and_left, and_right, and_both}
 
 pub record Cause : Type 0 where
