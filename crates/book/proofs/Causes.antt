@@ -10,7 +10,8 @@ use lib.ListN.{length, get_or, drop, drop_of_length-le}
 use lib.Seq.{drop-cons}
 use borrow.Author.Tests.{eqb-true, eq-eqb, ne_eqb, le-leb, lt-leb, not-false}
 use Rattle.lists.specs.Tests.{or_false_left, or_false_right}
-use Rattle.lists.specs.First.{first_of, numbered, applies_at, cleared, hit, skip, none}
+use Rattle.lists.specs.First.{first_of, numbered, applies_at, hit, skip, none}
+use Rattle.lists.proofs.First.{cleared}
 use Rattle.days.specs.Days.{bad_calendar, is_open, open_after}
 use Rattle.securities.specs.Securities.{good_tables}
 use Rattle.book.specs.Book.{Position, position}

@@ -9,7 +9,8 @@ use lib.Dec.{eqb, leb}
 use lib.ListN.{length, get_or}
 use borrow.Author.Tests.{eqb-true, eqb-false, eq-eqb, leb-true, not-false}
 use Rattle.lists.specs.Tests.{and_left, and_right, or_false_left, or_false_right}
-use Rattle.lists.specs.First.{NoneApplies, first_of, numbered, applies_at, cleared, cleared_by, none_applies}
+use Rattle.lists.specs.First.{NoneApplies, first_of, numbered, applies_at, cleared_by, none_applies}
+use Rattle.lists.proofs.First.{cleared}
 use Rattle.days.specs.Days.{bad_calendar, is_open, open_after}
 use Rattle.days.proofs.OpenDays.{Kept}
 use Rattle.securities.specs.Lent.{good_limits, good_pieces}

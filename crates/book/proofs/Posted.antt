@@ -12,7 +12,8 @@ use lib.ListN.{length, get_or, set, drop, replicate, length-set, drop_of_length-
 use borrow.Author.Fill.{fill_none, fill_more}
 use borrow.Author.Tests.{lt-ltb, le-ltb, ltb-true, ltb-false, le-leb, lt-leb, leb-true, eqb-true, eq-eqb, ne_eqb, not-false}
 use Rattle.lists.specs.Tests.{and_left, and_right, and_both, cond_true}
-use Rattle.lists.specs.First.{NoneApplies, first_of, numbered, applies_at, cleared, cleared_by, first_none, hit, skip, none}
+use Rattle.lists.specs.First.{NoneApplies, first_of, numbered, applies_at, cleared_by, first_none, hit, skip, none}
+use Rattle.lists.proofs.First.{cleared}
 use Rattle.days.specs.MemoDay.{memo_day, before_memo}
 use Rattle.records.specs.declared.Transfer.{Transfer}
 use Rattle.securities.specs.Lent.{piece_of}

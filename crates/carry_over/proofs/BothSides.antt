@@ -8,7 +8,8 @@ use lib.Dec.{eqb}
 use lib.ListN.{length, replicate, length-replicate, replicate-append-replicate}
 use borrow.Author.Tests.{eqb-true, not-false}
 use Rattle.lists.specs.Tests.{or_false_right}
-use Rattle.lists.specs.First.{first_of, numbered, applies_at, cleared, with_test}
+use Rattle.lists.specs.First.{first_of, numbered, applies_at, with_test}
+use Rattle.lists.proofs.First.{cleared}
 use Rattle.book.specs.declared.Book.{Book}
 use Rattle.book.specs.Soundness.{wrong_length_for, wrong_length, bad_day, table_causes, book_causes, opening_causes}
 use Rattle.book.proofs.Judged.{sound_state}

@@ -10,7 +10,8 @@ use lib.Seq.{length-take-le, drop_at}
 use borrow.Rule.Slice.PartMut.{mid_of, put_mid, same_len_mid}
 use borrow.Author.Tests.{eqb-true, not-false}
 use Rattle.lists.specs.Tests.{or_false_left, or_false_right}
-use Rattle.lists.specs.First.{first_of, numbered, applies_at, cleared, skip, none}
+use Rattle.lists.specs.First.{first_of, numbered, applies_at, skip, none}
+use Rattle.lists.proofs.First.{cleared}
 use Rattle.days.specs.Days.{bad_calendar}
 use Rattle.book.specs.declared.Book.{Book}
 use Rattle.book.specs.Soundness.{bad_day, bad_balances, state_causes, wrong_carry, carry_causes}

@@ -10,7 +10,8 @@ use lib.ListN.{length, take, drop, length-append, length-drop, take-append-drop}
 use lib.Seq.{drop-nil, take-append-le, drop-append-le, get_or-drop}
 use borrow.Author.Tests.{not-false}
 use Rattle.lists.specs.All.{all}
-use Rattle.lists.specs.Fields.{total, decode_fit}
+use Rattle.lists.specs.Fields.{total}
+use Rattle.lists.proofs.Fields.{decode_fit}
 use Rattle.lists.specs.Numbers.{Bytes}
 use Rattle.lists.specs.Sums.{sum_append, sum_map}
 use Rattle.lists.specs.Tests.{and_left, and_right, and_both}
@@ -23,7 +24,7 @@ use Rattle.records.proofs.Readings.{claim_long, claim_decoded}
 use Rattle.records.proofs.RecordKinds.{claim_lawful}
 use Rattle.records.proofs.RoundTrips.{claim_written_read}
 use Rattle.claims.specs.Written.{claim_bytes, bytes_of_all, written, read_claim, readings, Fits, AllFit}
-use Rattle.claims.specs.Passes.{all_length}
+use Rattle.claims.proofs.Passes.{all_length}
 use Rattle.claims.proofs.Written.{readings_written}
 use Rattle.cash.specs.Cash.{record_count, records_of, good_parties, is_good, bad_run, pay_on, receive_on, cents_to_pay, cents_to_receive}
 use Rattle.cash.specs.Runs.{RunOf, EveryGoodRun, EverySum, EveryJoin}

@@ -9,7 +9,8 @@ use lib.Dec.{T, ltb}
 use lib.IntN.{ℤ, pos, negsuc, ◌-ℤ◌}
 use lib.Ieee.{Float, nan, inf, fin, is_nan}
 use borrow.Author.Tests.{ltb-false}
-use Rattle.lists.specs.First.{first_of, numbered, applies_at, cleared}
+use Rattle.lists.specs.First.{first_of, numbered, applies_at}
+use Rattle.lists.proofs.First.{cleared}
 use Rattle.lists.specs.Tests.{or_false_left, or_false_right}
 use Rattle.cash.specs.declared.Cash.{Cash}
 use Rattle.cash.specs.declared.CashForecast.{CashForecast}

@@ -9,7 +9,7 @@ use lib.Seq.{take_at}
 use Rattle.lists.specs.All.{all, all_append}
 use Rattle.lists.specs.First.{first_of}
 use Rattle.records.specs.declared.ReadClaim.{ReadClaim}
-use Rattle.claims.specs.Passes.{all_length}
+use Rattle.claims.proofs.Passes.{all_length}
 use Rattle.claims.specs.Written.{bytes_of_all, written, readings}
 use Rattle.claims.proofs.Written.{readings_written}
 use Rattle.history.specs.Calls.{Call, buffer_of, claims_of}

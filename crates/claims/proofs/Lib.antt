@@ -18,3 +18,4 @@ pub mod Leading
 pub mod Reached
 pub mod RowLoops
 pub mod Turns
+pub mod Passes

@@ -18,7 +18,8 @@ use Rattle.records.specs.declared.Transfer.{Transfer}
 use Rattle.securities.specs.Securities.{security_of, type_of, Row, row_of, rows_of}
 use Rattle.claims.specs.Fails.{is_mbs, waits}
 use Rattle.claims.specs.Claimable.{Claimable}
-use Rattle.claims.specs.Passes.{Free, Passed, pass_start, pass_more, pass_now, pass_end}
+use Rattle.claims.specs.Passes.{Free, Passed, pass_start, pass_now, pass_end}
+use Rattle.claims.proofs.Passes.{pass_more}
 use Rattle.claims.specs.Reached.{row_at, leading, date_at, is_reached, reached_from, reached_rows, interim_end, is_waiting, waiting_from, waiting_row, Claiming}
 use Rattle.claims.proofs.TableRows.{rows_of_at, row_number, date_word, payment_word, length_rows_of}
 

@@ -11,7 +11,8 @@ use Rattle.records.specs.declared.ReadClaim.{ReadClaim}
 use Rattle.records.specs.declared.ReadClaim.TheVariants.{Is, Refused}
 use Rattle.records.proofs.RoundTrips.{claim_read_written}
 use Rattle.claims.specs.Written.{Fits, AllFit, claim_bytes, bytes_of_all, written, read_claim, readings, AllRead}
-use Rattle.claims.specs.Passes.{claim_length, all_length}
+use Rattle.claims.specs.Passes.{claim_length}
+use Rattle.claims.proofs.Passes.{all_length}
 
 pub all_fit_append : (xs ys : List Claim) → AllFit xs → AllFit ys → AllFit (xs ++ ys)
 all_fit_append [] ys h k = k

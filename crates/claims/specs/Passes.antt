@@ -1,15 +1,15 @@
 -- A pass over a run of claims: it counts them, and where it writes it stores each as a record behind the last. One set of loops
 -- makes both passes; these are the contracts' words for them, and the laws for a loop that makes one place after the other.
-use Rattle.std.specs.Prelude.{◌≡◌, refl, Bool, true, false, cond, List, [], ◌∷◌, ◌++◌, ℕ, zero, suc, ◌+◌, ◌-◌, ◌*◌, ◌≤◌, ◌<◌, length, drop}
+use Rattle.std.specs.Prelude.{◌≡◌, refl, Bool, true, false, cond, List, [], ◌∷◌, ◌++◌, ℕ, zero, suc, ◌+◌, ◌-◌, ◌*◌, ◌≤◌, ◌<◌, length}
 use Rattle.std.proofs.Common.{ap, sym, ◌∙◌, subst, true≢false, append_assoc, append-nil, arith, add-zero, add-suc, mul-suc, length-append}
 use Rattle.std.proofs.Math.Numerals.{add-one}
-use Rattle.lists.specs.Put.{put, put_none, put_length, put_start, put_put}
+use Rattle.lists.specs.Put.{put, put_none}
 use Rattle.lists.specs.Numbers.{bytes_of}
 use Rattle.lists.specs.Fields.{encode}
 use Rattle.lists.specs.Tabulate.{each}
 use Rattle.records.specs.declared.Claim.{Claim}
 use Rattle.records.specs.MessageRecords.{claim_kind, claim_values, record_bytes}
-use Rattle.claims.specs.Written.{claim_size, claim_bytes, bytes_of_all, written}
+use Rattle.claims.specs.Written.{claim_size, claim_bytes, bytes_of_all}
 
 -- ---- records in a buffer
 
@@ -20,11 +20,6 @@ place l n cs = put l (claim_size * n) (bytes_of_all cs)
 pub claim_length : (c : Claim) → length (claim_bytes c) ≡ 35
 unfolding claim_bytes record_bytes claim_kind claim_values encode bytes_of
 claim_length c = refl
-
-pub all_length : (cs : List Claim) → length (bytes_of_all cs) ≡ 35 * length cs
-unfolding bytes_of_all
-all_length [] = refl
-all_length (c ∷ cs) = length-append (claim_bytes c) (bytes_of_all cs) ∙ rw (claim_length c, all_length cs) (omega arith)
 
 pub all_append : (xs ys : List Claim) → bytes_of_all (xs ++ ys) ≡ bytes_of_all xs ++ bytes_of_all ys
 unfolding bytes_of_all
@@ -39,22 +34,6 @@ place_none l n = put_none l (35 * n)
 pub place_one : (l : List ℕ) (n : ℕ) (c : Claim) → place l n (c ∷ []) ≡ put l (35 * n) (claim_bytes c)
 unfolding place bytes_of_all
 place_one l n c = ap (put l (35 * n)) (append-nil (claim_bytes c))
-
-pub place_length : (l : List ℕ) (n : ℕ) (cs : List Claim) → 35 * (n + length cs) ≤ length l → length (place l n cs) ≡ length l
-unfolding place
-place_length l n cs h = put_length l (35 * n) (bytes_of_all cs) (omega (arith, all_length cs))
-
-pub place_place : (l : List ℕ) (n : ℕ) (xs ys : List Claim) → 35 * (n + length xs + length ys) ≤ length l
-    → place (place l n xs) (n + length xs) ys ≡ place l n (xs ++ ys)
-unfolding place
-place_place l n xs ys h =
-    let a : 35 * (n + length xs) ≡ 35 * n + length (bytes_of_all xs) = omega (arith, all_length xs) in
-    rw (a, all_append) (put_put l (35 * n) (bytes_of_all xs) (bytes_of_all ys) (omega (arith, all_length xs, all_length ys)))
-
--- from the buffer's start on it is what the calls leave
-pub place_written : (l : List ℕ) (cs : List Claim) → place l 0 cs ≡ written cs l
-unfolding place written
-place_written l cs = put_start l (bytes_of_all cs) ∙ ap (λ (k : ℕ). bytes_of_all cs ++ drop k l) (all_length cs)
 
 -- ---- a pass
 
@@ -88,20 +67,6 @@ passed_store false l after n cs c t e b = absurd (true≢false (sym t))
 
 pub room_one : (l : List ℕ) (n : ℕ) (cs : List Claim) (c : Claim) → cs ≡ c ∷ [] → 35 * (n + length cs) ≤ length l → 35 * n + 35 ≤ length l
 room_one l n cs c e h = omega (arith, ap length e)
-
--- two runs, one behind the other
-pub passed_append : (w : Bool) (l b after : List ℕ) (n m r : ℕ) (xs ys : List Claim) → Free w l n (xs ++ ys)
-    → Passed w l b n m xs → Passed w b after m r ys → Passed w l after n r (xs ++ ys)
-passed_append true l b after n m r xs ys free p q =
-    record {
-      next = omega (arith, length-append xs ys, p.next, q.next);
-      bytes = q.bytes
-          ∙ ap (λ (x : List ℕ). place x m ys) p.bytes
-          ∙ ap (λ (x : ℕ). place (place l n xs) x ys) p.next
-          ∙ place_place l n xs ys (omega (arith, length-append xs ys, free.room refl));
-    }
-passed_append false l b after n m r xs ys free p q =
-    record { next = omega (arith, length-append xs ys, p.next, q.next); bytes = q.bytes ∙ p.bytes }
 
 -- what is left after the first run is free for the second
 pub free_append : (w : Bool) (l b : List ℕ) (n m : ℕ) (xs ys : List Claim) → Free w l n (xs ++ ys)
@@ -154,11 +119,6 @@ pub pass_start : (w : Bool) (f : ℕ → List Claim) (l : List ℕ) (n : ℕ) �
 unfolding each
 pass_start w f l n = passed_nothing w l n [] refl
 
-pub pass_more : (w : Bool) (f : ℕ → List Claim) (k c : ℕ) (l b after : List ℕ) (n m r : ℕ) → suc k ≤ c → Free w l n (each c f)
-    → Passed w l b n m (each k f) → Passed w b after m r (f k) → Passed w l after n r (each (k + 1) f)
-pass_more w f k c l b after n m r h free p q =
-    rw (each_more f k) (passed_append w l b after n m r (each k f) (f k) (rw (each_more f k) at (free_part w f (k + 1) c l n (omega arith) free)) p q)
-
 pub pass_now : (w : Bool) (f : ℕ → List Claim) (k c : ℕ) (l b : List ℕ) (n m : ℕ)
     → suc k ≤ c → Free w l n (each c f) → Passed w l b n m (each k f) → length b ≡ length l → Free w b m (f k)
 pass_now w f k c l b n m h free p e =
@@ -182,10 +142,6 @@ module _ {w : Bool} (f : ℕ → List Claim) {c : ℕ} {l buffer : List ℕ} {n 
   pub turn_free : k < c → Free w buffer m (f k)
   turn_free h = pass_now w f k c l buffer n m h free t.passed t.sized
 
-  pub turn_step : {after : List ℕ} {r : ℕ} → k < c → Passed w buffer after m r (f k) → length after ≡ length buffer → Turning w f c l after n r (k + 1)
-  turn_step {after} {r} h p e =
-      record { turns = omega arith; passed = pass_more w f k c l buffer after n m r h free t.passed p; sized = e ∙ t.sized }
-
   pub turn_end : c ≤ k → Passed w l buffer n m (each c f)
   turn_end h = pass_end w f k c l buffer n m (omega (arith, t.turns)) t.passed
 
@@ -196,7 +152,3 @@ free_count l cs h = record { few = omega arith; room = λ t. absurd (true≢fals
 
 pub free_store : (l : List ℕ) (cs : List Claim) → length cs ≤ 1000000 → 35 * length cs ≤ length l → Free true l 0 cs
 free_store l cs h k = record { few = omega arith; room = λ t. omega arith }
-
--- counted, then stored
-pub passed_written : (l b after : List ℕ) (m n : ℕ) (cs : List Claim) → Passed false l b 0 m cs → Passed true b after 0 n cs → after ≡ written cs l
-passed_written l b after m n cs p q = q.bytes ∙ ap (λ (x : List ℕ). place x 0 cs) p.bytes ∙ place_written l cs

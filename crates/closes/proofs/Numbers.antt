@@ -7,7 +7,8 @@ use lib.ListN.{length}
 use borrow.Author.Tests.{eq-eqb, ne_eqb, lt-ltb, le-ltb, not-false}
 use Rattle.lists.specs.Tests.{and_left, and_right, and_both, or_false_right}
 use Rattle.lists.specs.All.{all}
-use Rattle.lists.specs.First.{first_of, applies_at, cleared, hit, skip, none}
+use Rattle.lists.specs.First.{first_of, applies_at, hit, skip, none}
+use Rattle.lists.proofs.First.{cleared}
 use Rattle.days.specs.Days.{open_after}
 use Rattle.records.specs.MessageRecords.{close_kind, reads}
 use Rattle.claims.specs.Close.{close_claims}

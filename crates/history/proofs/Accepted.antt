@@ -7,7 +7,8 @@ use Prim.Native.Nat.{ℕ, ◌*◌, ◌≤◌, ◌<◌}
 use lib.ListN.{length}
 use borrow.Author.Tests.{leb-false, ltb-false, not-false, eqb-false}
 use Rattle.lists.specs.Tests.{or_false_left, or_false_right}
-use Rattle.lists.specs.First.{NoneApplies, numbered, applies_at, none_applies, accepted, cleared_by, none_left}
+use Rattle.lists.specs.First.{NoneApplies, numbered, applies_at, none_applies, cleared_by, none_left}
+use Rattle.lists.proofs.First.{accepted}
 use Rattle.days.specs.Days.{open_after}
 use Rattle.records.specs.declared.Transfer.{Transfer}
 use Rattle.records.specs.MessageRecords.{transfer_kind, close_kind, transfer_of, reads}

@@ -5,7 +5,8 @@ use mathlib.Core.Bool.{true}
 use mathlib.Core.List.{List}
 use Prim.Native.Nat.{ℕ, zero, suc}
 use lib.ListN.{length, replicate}
-use Rattle.lists.specs.First.{first_of, numbered, none_applies, hit_group, next_group}
+use Rattle.lists.specs.First.{first_of, numbered, none_applies, next_group}
+use Rattle.lists.proofs.First.{hit_group}
 use Rattle.days.specs.Days.{first_date}
 use Rattle.claims.specs.Written.{written}
 use Rattle.book.specs.declared.Book.{Book}

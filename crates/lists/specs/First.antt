@@ -1,6 +1,6 @@
 -- A table of causes with their numbers, and the number of the first that applies.
-use Rattle.std.specs.Prelude.{◌≡◌, refl, ◌↔◌, Bool, true, false, cond, ◌&&◌, List, [], ◌∷◌, ◌++◌, ℕ, eqb, ltb}
-use Rattle.std.proofs.Common.{sym, ◌∙◌, arith, ltb-true}
+use Rattle.std.specs.Prelude.{◌≡◌, refl, Bool, true, false, cond, ◌&&◌, List, [], ◌∷◌, ◌++◌, ℕ, eqb, ltb}
+use Rattle.std.proofs.Common.{arith, ltb-true}
 use Rattle.lists.specs.Tests.{and_left, and_right, and_both}
 
 pub record Cause : Type 0 where
@@ -57,9 +57,6 @@ unfolding first_of
 first_none [] n = refl
 first_none (c ∷ cs) n = rw n.0 (first_none cs n.1)
 
-pub accepted : (cs : List Cause) → numbered cs ≡ true → (first_of cs ≡ 0) ↔ NoneApplies cs
-accepted cs t = (none_applies cs t, first_none cs)
-
 -- ---- a fact taken by its number
 
 pub cleared_by : (n : ℕ) (cs : List Cause) → NoneApplies cs → applies_at n cs ≡ false
@@ -70,10 +67,6 @@ cleared_by n (c ∷ cs) k = go (eqb c.number n) (cleared_by n cs k.1)
     go : (b : Bool) → applies_at n cs ≡ false → cond b c.applies (applies_at n cs) ≡ false
     go true ih = k.0
     go false ih = ih
-
--- the cause with the number n does not apply where the table's number is 0
-pub cleared : (n : ℕ) (cs : List Cause) → numbered cs ≡ true → first_of cs ≡ 0 → applies_at n cs ≡ false
-cleared n cs t e = cleared_by n cs (none_applies cs t e)
 
 -- ---- a table's number is that of the table without a cause that does not apply
 
@@ -134,11 +127,3 @@ numbered_append [] ys s t = t
 numbered_append (c ∷ xs) ys s t =
     and_both (and_left (ltb 0 c.number) (numbered xs) s)
     (numbered_append xs ys (and_right (ltb 0 c.number) (numbered xs) s) t)
-
--- the same of a number r that a callee gave for the first group
-pub hit_group : (xs ys : List Cause) {r : ℕ} → r ≡ first_of xs → (r ≡ 0 → ⊥) → r ≡ first_of (xs ++ ys)
-hit_group xs ys e h = e ∙ sym (first_group xs ys (λ q. h (e ∙ q)))
-
-pub skip_group : (xs ys : List Cause) {r n : ℕ} → numbered xs ≡ true → r ≡ first_of xs → r ≡ 0 → n ≡ first_of ys
-    → n ≡ first_of (xs ++ ys)
-skip_group xs ys t e h k = k ∙ sym (next_group xs ys (none_applies xs t (sym e ∙ h)))

@@ -8,7 +8,8 @@ use lib.Dec.{eqb, ltb, leb}
 use lib.ListN.{length, get_or, drop}
 use borrow.Author.Tests.{eqb-true, eq-eqb, ne_eqb, le-leb, lt-leb, leb-true, lt-ltb, le-ltb, ltb-false, not-false}
 use Rattle.lists.specs.Tests.{and_left, and_right, or_false_left, or_false_right}
-use Rattle.lists.specs.First.{first_of, numbered, hit, skip, none, numbered_append, none_applies, first_none, none_left, none_right, hit_group, skip_group}
+use Rattle.lists.specs.First.{first_of, numbered, hit, skip, none, numbered_append, none_applies, first_none, none_left, none_right}
+use Rattle.lists.proofs.First.{hit_group, skip_group}
 use Rattle.days.specs.Days.{is_date, is_open}
 use Rattle.days.proofs.OpenDays.{open_date}
 use Rattle.days.proofs.Parts.{parts}

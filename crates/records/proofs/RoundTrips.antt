@@ -10,7 +10,8 @@ use lib.Seq.{take_at, take_all, drop_at, take-take, take-add, drop-drop}
 use borrow.Author.Tests.{le-leb, eq-eqb, eqb-true}
 use Rattle.lists.specs.Tests.{and_left, and_right, and_both, cond_true}
 use Rattle.lists.specs.Numbers.{number_of, Bytes}
-use Rattle.lists.specs.Fields.{part, part_take, total, encode, decode, Fit, encode_length, fit_length, decode_encode, encode_decode}
+use Rattle.lists.specs.Fields.{part, part_take, total, encode, decode, Fit, encode_length, fit_length}
+use Rattle.lists.proofs.Fields.{decode_encode, encode_decode}
 use Rattle.records.specs.declared.Transfer.{Transfer}
 use Rattle.records.specs.declared.Claim.{Claim}
 use Rattle.records.specs.declared.Answer.{Answer}

@@ -16,7 +16,7 @@ use Rattle.records.specs.MessageRecords.{close_kind, answer_kind, size, record_b
 use Rattle.records.proofs.Answers.{stored_record}
 use Rattle.securities.specs.Lent.{ones}
 use Rattle.claims.specs.Written.{bytes_of_all, written}
-use Rattle.claims.specs.Passes.{all_length}
+use Rattle.claims.proofs.Passes.{all_length}
 use Rattle.claims.proofs.Written.{length_written}
 use Rattle.book.specs.declared.Book.{Book}
 use Rattle.book.specs.declared.Done.{Done}

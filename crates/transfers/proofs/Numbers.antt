@@ -8,7 +8,8 @@ use lib.Dec.{leb}
 use lib.ListN.{length}
 use borrow.Author.Tests.{leb-false, le-leb, lt-leb, lt-ltb, le-ltb}
 use Rattle.lists.specs.Tests.{or_false_right}
-use Rattle.lists.specs.First.{NoneApplies, first_of, numbered, applies_at, none_applies, cleared_by, none_left, none_right, hit, skip, none, hit_group, skip_group}
+use Rattle.lists.specs.First.{NoneApplies, first_of, numbered, applies_at, none_applies, cleared_by, none_left, none_right, hit, skip, none}
+use Rattle.lists.proofs.First.{hit_group, skip_group}
 use Rattle.records.specs.declared.Transfer.{Transfer}
 use Rattle.records.specs.MessageRecords.{transfer_kind, transfer_of, first_line, second_line, reads}
 use Rattle.tags.specs.declared.Tag.{Tag}

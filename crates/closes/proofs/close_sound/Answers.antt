@@ -2,7 +2,8 @@
 use mathlib.Core.Path.{◌≡◌, refl, sym, ap, ◌∙◌}
 use Rattle.days.specs.Days.{open_after}
 use Rattle.records.proofs.Answers.{close_is, close_not}
-use Rattle.claims.specs.Passes.{free_count, free_store, passed_written}
+use Rattle.claims.specs.Passes.{free_count, free_store}
+use Rattle.claims.proofs.Passes.{passed_written}
 use Rattle.book.proofs.Judged as judged
 use Rattle.claims.proofs.Turns.{close_few}
 use Rattle.history.specs.Calls.{close, buffer_of, claims_of}

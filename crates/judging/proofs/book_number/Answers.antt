@@ -1,6 +1,6 @@
 -- `book_number` gives the first number of the table, then that of the day and the balances.
 use mathlib.Core.Path.{sym, ◌∙◌}
-use Rattle.lists.specs.First.{hit_group, skip_group}
+use Rattle.lists.proofs.First.{hit_group, skip_group}
 use Rattle.book.specs.Soundness.{book_causes}
 use Rattle.book.proofs.Causes.{numbered_tables, calendar_length}
 use borrow.Author.Rules.{rules}

@@ -1,6 +1,7 @@
 -- `opening_number` gives the first number of the table, then 4 for the day.
 use mathlib.Core.Path.{sym, ◌∙◌}
-use Rattle.lists.specs.First.{hit, skip, none, hit_group, skip_group}
+use Rattle.lists.specs.First.{hit, skip, none}
+use Rattle.lists.proofs.First.{hit_group, skip_group}
 use Rattle.book.specs.Soundness.{opening_causes}
 use Rattle.book.proofs.Causes.{numbered_tables, calendar_length}
 use borrow.Author.Rules.{rules}

@@ -1,7 +1,8 @@
 -- `transfer_number` gives the first number of the table, then 12 for the limits and 13 for the pieces, then that of the day and the balances.
 use mathlib.Core.Path.{sym, ap, ◌∙◌}
 use mathlib.Core.Bool.{not}
-use Rattle.lists.specs.First.{hit, skip, hit_group, skip_group}
+use Rattle.lists.specs.First.{hit, skip}
+use Rattle.lists.proofs.First.{hit_group, skip_group}
 use Rattle.book.specs.Soundness.{lent_causes, lent_book_causes}
 use Rattle.book.proofs.Causes.{numbered_tables, calendar_length}
 use borrow.Author.Rules.{rules}

@@ -1,4 +1,5 @@
-use Rattle.claims.specs.Passes.{turn_start, turn_free, turn_step, turn_end}
+use Rattle.claims.specs.Passes.{turn_start, turn_free, turn_end}
+use Rattle.claims.proofs.Passes.{turn_step}
 use Rattle.claims.specs.Turns.{security_claims}
 use Rattle.claims.proofs.Turns.{close_turns}
 use borrow.Author.Rules.{rules}

@@ -1,7 +1,8 @@
 use lib.ListN.{get_or}
 use Rattle.securities.specs.Securities.{row_of}
 use Rattle.claims.specs.Close.{loan_parties, loan_claim}
-use Rattle.claims.specs.Passes.{turn_start, turn_free, turn_step, turn_end}
+use Rattle.claims.specs.Passes.{turn_start, turn_free, turn_end}
+use Rattle.claims.proofs.Passes.{turn_step}
 use Rattle.claims.specs.Turns.{lender_claims}
 use Rattle.claims.proofs.Turns.{small_at}
 use borrow.Author.Rules.{rules}

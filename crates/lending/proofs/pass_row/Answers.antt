@@ -2,7 +2,8 @@ use mathlib.Core.Path.{◌≡◌}
 use Prim.Native.Nat.{◌+◌, ◌-◌, ◌*◌}
 use Rattle.lists.specs.Fields.{part, part_length}
 use Rattle.securities.specs.Securities.{row_of}
-use Rattle.claims.specs.Passes.{turn_start, turn_free, turn_step, turn_end}
+use Rattle.claims.specs.Passes.{turn_start, turn_free, turn_end}
+use Rattle.claims.proofs.Passes.{turn_step}
 use Rattle.claims.specs.Close.{tracking_claims}
 use Rattle.claims.proofs.Turns.{row_turn, small_part}
 use borrow.Author.Rules.{rules}

@@ -2,7 +2,8 @@ use mathlib.Core.Path.{◌≡◌, refl}
 use Prim.Native.Nat.{◌+◌, ◌-◌, ◌*◌}
 use Rattle.lists.specs.Fields.{part}
 use Rattle.securities.specs.Securities.{row_of, security_of}
-use Rattle.claims.specs.Passes.{turn_start, turn_free, turn_step, turn_end}
+use Rattle.claims.specs.Passes.{turn_start, turn_free, turn_end}
+use Rattle.claims.proofs.Passes.{turn_step}
 use Rattle.claims.specs.Turns.{turn_claims}
 use Rattle.claims.proofs.Turns.{security_turns, row_words_lem}
 use borrow.Author.Rules.{rules}

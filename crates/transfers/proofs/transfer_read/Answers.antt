@@ -8,7 +8,8 @@ use Rattle.records.specs.declared.Claim.{Claim}
 use Rattle.records.specs.declared.Transfer.{Transfer}
 use Rattle.records.proofs.Readings.{transfer_long, first_line_length, second_line_length}
 use Rattle.securities.proofs.Sound.{sound_rows}
-use Rattle.claims.specs.Passes.{free_count, free_store, passed_written}
+use Rattle.claims.specs.Passes.{free_count, free_store}
+use Rattle.claims.proofs.Passes.{passed_written}
 use Rattle.claims.specs.Written.{written}
 use Rattle.claims.specs.Reached.{Claiming}
 use Rattle.claims.proofs.TableRows.{small_frequency}
