@@ -136,16 +136,13 @@ class Failing(common.Claimrun):
         self.one_line(self.ended(["sh", "-c", 'exec "$0" >&-', PROGRAM]), b"standard output")
 
     def test_reader_gone(self):
-        """A write to a pipe that nobody reads fails where its signal is ignored; else the signal ends the program."""
+        """A write to a pipe that nobody reads fails. Its signal ends nothing: a program of the kit ignores it from its start."""
         for ignored in (True, False):
             ours, theirs = os.pipe()
             os.close(ours)
             run = self.ended(stdout=theirs, restore_signals=not ignored)
             os.close(theirs)
-            if ignored:
-                self.one_line(run, b"standard output")
-            else:
-                self.assertEqual((run.returncode, run.stderr), (-signal.SIGPIPE, b""))
+            self.one_line(run, b"standard output")
 
     def test_answer_about_the_book(self):
         self.write_book(b"")
