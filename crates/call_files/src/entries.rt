@@ -16,7 +16,7 @@ use crate::{
 // A call: where its parts stand and how long they are. `words` is a second run of words behind the balances: those that a carry over is to
 // write, or a store. Of a forecast the message is the run of claim records, and the day the release date. A part that a call is not lent is
 // empty, at the end of the file; mark and account are 0 then.
-#[derive(Drop)]
+#[derive(Clone, Copy)]
 pub struct Entry {
     pub kind: u8,
     pub calendar: usize,
@@ -40,7 +40,7 @@ pub struct Entry {
 
 // What a call should give, with the parts as in its entry. `figures` is where the doubles of a forecast stand, the end of the file for any
 // other call.
-#[derive(Drop)]
+#[derive(Clone, Copy)]
 pub struct Expected {
     pub number: u16,
     pub day: u32,

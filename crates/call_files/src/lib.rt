@@ -1,10 +1,14 @@
 // What the programs that try the calls share: files read whole, numbers and words taken from bytes, checksums, printed fields.
 // Bytes behind the end of a file count as 0, so every place may be asked for.
+#![tactic(auto)]
+
 ghost use Rattle.std.specs.Prelude.{◌≡◌, true, ◌≤◌, ◌<◌};
-ghost use Rattle.io.specs.Counts.{IsPrefixLen};
+ghost use Rattle.std.specs.Counts.{IsPrefixLen};
 
 use book::{Book, Done};
-use libc::STDOUT_FILENO;
+use std::io::{ErrorKind, Read};
+use std::rt::Files;
+use std::{fs, io, str};
 
 pub mod entries;
 pub mod steps;
@@ -28,7 +32,7 @@ const FORECAST: u8 = 7;
 const NOT_LENT: u32 = 4294967295;
 
 // A list of a call: whether it is lent, where its numbers stand, and how many there are.
-#[derive(Drop)]
+#[derive(Clone, Copy)]
 pub struct Numbers {
     pub is_lent: bool,
     pub at: usize,
@@ -36,7 +40,7 @@ pub struct Numbers {
 }
 
 // The lists of a call, and the place behind them.
-#[derive(Drop)]
+#[derive(Clone, Copy)]
 pub struct Lists {
     pub limits: Numbers,
     pub pieces: Numbers,
@@ -399,33 +403,72 @@ pub fn call(
     closes::close(calendar, tables, book, balances, message, claims)
 }
 
-// Reads a file to the start of a buffer and answers how many bytes it has, as far as the buffer holds them; 0 where it cannot be
-// read.
-pub fn read_file(path: &[u8], buffer: &mut [u8]) -> usize
+// Opens a file. The system's paths are text here, so no other path leads to one.
+fn open<R: Files>(rt: &R, path: &[u8]) -> io::Result<R::File> {
+    match str::from_utf8(path) {
+        Ok(path) => fs::open(rt, path),
+        Err(_) => Err(io::Error::from(ErrorKind::InvalidFilename)),
+    }
+}
+
+// Says on standard error what failed, and why, in the system's words; the number that the library writes behind these is left out.
+fn fail(rt: &(impl Eprint + Alloc), what: &[u8], error: io::Error) {
+    let what = str::from_utf8(what).unwrap_or("a path");
+    let _ = match format!(in rt.alloc(); "{error}") {
+        Ok(text) => match text.as_str().split_once(" (os error ") {
+            Some((words, _)) => eprintln!(rt; "{what}: {words}"),
+            None => eprintln!(rt; "{what}: {text}"),
+        },
+        Err(_) => eprintln!(rt; "{what}: {error}"),
+    };
+}
+
+// Reads until a buffer is full, the file ends or a read fails, and answers how many bytes stand at the buffer's start.
+fn read_full(file: &mut impl Read, buffer: &mut [u8]) -> usize
     ensures { IsPrefixLen result buffer.new }
 {
-    let fd = os::open_read(path);
-    if fd < 0 {
-        os::fail(path);
-        return 0;
+    let mut done: usize = 0;
+    while done < buffer.len() {
+        match file.read(&mut buffer[done..]) {
+            Ok(0) => return done,
+            Ok(n) => done += n,
+            Err(_) => return done,
+        }
     }
-    let n = io::read_full(fd, buffer);
-    libc::close(fd);
-    n
+    done
+}
+
+// Reads a file to the start of a buffer and answers how many bytes it has, as far as the buffer holds them; 0 where it cannot be
+// read.
+pub fn read_file(rt: &(impl Files + Eprint + Alloc), path: &[u8], buffer: &mut [u8]) -> usize
+    ensures { IsPrefixLen result buffer.new }
+{
+    match open(rt, path) {
+        Ok(mut file) => read_full(&mut file, buffer),
+        Err(error) => {
+            fail(rt, path, error);
+            0
+        }
+    }
 }
 
 // Writes bytes.
-pub fn print(s: &[u8]) {
-    io::write_all(STDOUT_FILENO, s);
+pub fn print(rt: &impl Print, s: &[u8]) {
+    let _ = rt.write_all(s);
+}
+
+// Writes a number.
+pub fn print_number(rt: &impl Print, n: u64) {
+    let _ = rt.print(n);
 }
 
 // Writes a space and a number.
-pub fn print_field(n: u64) {
-    print(b" ");
-    io::print_decimal(STDOUT_FILENO, n);
+pub fn print_field(rt: &impl Print, n: u64) {
+    print(rt, b" ");
+    print_number(rt, n);
 }
 
 // Ends a line.
-pub fn print_end() {
-    print(b"\n");
+pub fn print_end(rt: &impl Print) {
+    print(rt, b"\n");
 }

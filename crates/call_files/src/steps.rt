@@ -16,7 +16,7 @@ use crate::{
 use book::{Book, Done};
 
 // Where the parts of a step stand.
-#[derive(Drop)]
+#[derive(Clone, Copy)]
 pub struct Step {
     pub kind: u8,
     pub name: usize,

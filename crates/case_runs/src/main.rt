@@ -7,87 +7,90 @@
 // repo, security, lender, borrower, par). Before a carry over each word of its balances holds a stamp; under a refused one stand the words
 // that it changed. Under a call that sets a mark or returns to one stands a line with the checksum of all words of the store, then one for
 // each mark that is set: its number, day and count.
+#![tactic(auto)]
+
 use book::{Book, Done};
 use call_files::steps::Step;
 use call_files::{print, print_field, steps};
 use records::{Claim, ReadClaim};
+use std::rt::Files;
 
 // Writes a claim's line.
-fn print_claim(c: Claim) {
-    print(b" claim");
-    print_field(c.claim_type as u64);
-    print_field(c.outcome as u64);
-    print_field(c.payer as u64);
-    print_field(c.payee as u64);
-    print_field(c.security as u64);
-    print_field(c.row as u64);
-    print_field(c.transfer as u64);
-    print_field(c.interest.0);
-    print_field(c.principal.0);
-    print_field(c.release as u64);
-    print_field(c.slot as u64);
-    call_files::print_end();
+fn print_claim(rt: &impl Print, c: Claim) {
+    print(rt, b" claim");
+    print_field(rt, c.claim_type as u64);
+    print_field(rt, c.outcome as u64);
+    print_field(rt, c.payer as u64);
+    print_field(rt, c.payee as u64);
+    print_field(rt, c.security as u64);
+    print_field(rt, c.row as u64);
+    print_field(rt, c.transfer as u64);
+    print_field(rt, c.interest.0);
+    print_field(rt, c.principal.0);
+    print_field(rt, c.release as u64);
+    print_field(rt, c.slot as u64);
+    call_files::print_end(rt);
 }
 
 // Writes the line of the claim that bytes begin with.
-fn print_claim_at(s: &[u8]) {
+fn print_claim_at(rt: &impl Print, s: &[u8]) {
     match reading::read_claim(s) {
-        ReadClaim::Is(c) => print_claim(c),
-        ReadClaim::Refused => print(b" no claim\n"),
+        ReadClaim::Is(c) => print_claim(rt, c),
+        ReadClaim::Refused => print(rt, b" no claim\n"),
     }
 }
 
 // Writes the lines of the claims in a buffer.
-fn print_claims(claims: &[u8], n: usize) {
+fn print_claims(rt: &impl Print, claims: &[u8], n: usize) {
     let mut at: usize = 0;
     let mut i: usize = 0;
     while i < n {
-        print_claim_at(call_files::part(claims, at, 35));
+        print_claim_at(rt, call_files::part(claims, at, 35));
         at = call_files::plus(at, 35);
         i += 1;
     }
 }
 
 // Writes the name of a word's tracking: the words of repo stand behind those of lending.
-fn print_tracking(w: usize) {
+fn print_tracking(rt: &impl Print, w: usize) {
     if w < 4096 {
-        print(b" lent");
+        print(rt, b" lent");
         return;
     }
-    print(b" repo");
+    print(rt, b" repo");
 }
 
 // Writes the line of a word of the balances where it is not zero.
-fn print_balance(w: usize, par: u64) {
+fn print_balance(rt: &impl Print, w: usize, par: u64) {
     if par != 0 {
-        print_tracking(w);
-        print_field((w / 256 % 16) as u64);
-        print_field((w / 16 % 16) as u64);
-        print_field((w % 16) as u64);
-        print_field(par);
-        call_files::print_end();
+        print_tracking(rt, w);
+        print_field(rt, (w / 256 % 16) as u64);
+        print_field(rt, (w / 16 % 16) as u64);
+        print_field(rt, (w % 16) as u64);
+        print_field(rt, par);
+        call_files::print_end(rt);
     }
 }
 
 // Writes the lines of the balances.
-fn print_balances(balances: &[u64]) {
+fn print_balances(rt: &impl Print, balances: &[u64]) {
     let mut w: usize = 0;
     while w < balances.len() {
-        print_balance(w, balances[w]);
+        print_balance(rt, w, balances[w]);
         w += 1;
     }
 }
 
 // Writes a call's lines.
-fn print_call(name: &[u8], done: Done, claims: &[u8], balances: &[u64]) {
-    print(name);
-    print_field(done.number as u64);
-    print_field(done.book.day as u64);
-    print_field(done.book.count as u64);
-    print_field(done.claims as u64);
-    call_files::print_end();
-    print_claims(claims, done.claims);
-    print_balances(balances);
+fn print_call(rt: &impl Print, name: &[u8], done: Done, claims: &[u8], balances: &[u64]) {
+    print(rt, name);
+    print_field(rt, done.number as u64);
+    print_field(rt, done.book.day as u64);
+    print_field(rt, done.book.count as u64);
+    print_field(rt, done.claims as u64);
+    call_files::print_end(rt);
+    print_claims(rt, claims, done.claims);
+    print_balances(rt, balances);
 }
 
 // The word at a place of a store; behind its end 0.
@@ -96,29 +99,30 @@ fn word_of(store: &[u64], at: usize) -> u64 {
 }
 
 // Writes the line of the mark with a number that begins at a place, where it is set.
-fn print_mark(mark: u64, store: &[u64], at: usize) {
+fn print_mark(rt: &impl Print, mark: u64, store: &[u64], at: usize) {
     if word_of(store, at) == 1 {
-        print(b" mark");
-        print_field(mark);
-        print_field(word_of(store, call_files::plus(at, 1)));
-        print_field(word_of(store, call_files::plus(at, 2)));
-        call_files::print_end();
+        print(rt, b" mark");
+        print_field(rt, mark);
+        print_field(rt, word_of(store, call_files::plus(at, 1)));
+        print_field(rt, word_of(store, call_files::plus(at, 2)));
+        call_files::print_end(rt);
     }
 }
 
 // Writes the lines of the store.
-fn print_store(store: &[u64]) {
-    print(b" store");
-    print_field(call_files::balance_sum(store));
-    call_files::print_end();
-    print_mark(1, store, 0);
-    print_mark(2, store, 8195);
-    print_mark(3, store, 16390);
-    print_mark(4, store, 24585);
+fn print_store(rt: &impl Print, store: &[u64]) {
+    print(rt, b" store");
+    print_field(rt, call_files::balance_sum(store));
+    call_files::print_end(rt);
+    print_mark(rt, 1, store, 0);
+    print_mark(rt, 2, store, 8195);
+    print_mark(rt, 3, store, 16390);
+    print_mark(rt, 4, store, 24585);
 }
 
 // Sets a mark or returns to one, writes the call's lines and those of the store, and answers the book after it.
 fn run_mark(
+    rt: &impl Print,
     s: &[u8],
     step: Step,
     calendar: &[u32],
@@ -127,13 +131,14 @@ fn run_mark(
     store: &mut [u64],
 ) -> Book {
     let done = steps::make_mark(s, step, calendar, book, balances, store);
-    print_call(steps::name(s, step), done, b"", balances);
-    print_store(store);
+    print_call(rt, steps::name(s, step), done, b"", balances);
+    print_store(rt, store);
     done.book
 }
 
 // Makes a call without a mark, writes its lines and answers the book after it.
 fn run_call(
+    rt: &impl Print,
     s: &[u8],
     step: Step,
     calendar: &[u32],
@@ -143,12 +148,13 @@ fn run_call(
     claims: &mut [u8],
 ) -> Book {
     let done = steps::make(s, step, calendar, tables, book, balances, claims);
-    print_call(steps::name(s, step), done, claims, balances);
+    print_call(rt, steps::name(s, step), done, claims, balances);
     steps::book_after(step.kind, book, done)
 }
 
 // Takes a step and answers the book after it.
 fn take_step(
+    rt: &impl Print,
     s: &[u8],
     step: Step,
     calendar: &mut [u32; 480],
@@ -159,7 +165,7 @@ fn take_step(
     store: &mut [u64],
 ) -> Book {
     if steps::has_mark(step) {
-        return run_mark(s, step, calendar, book, balances, store);
+        return run_mark(rt, s, step, calendar, book, balances, store);
     }
     if steps::is_store(step) {
         steps::set_store(s, step, store);
@@ -170,6 +176,7 @@ fn take_step(
     }
     let room = call_files::fitting(step.room, claims);
     run_call(
+        rt,
         s,
         step,
         calendar,
@@ -182,6 +189,7 @@ fn take_step(
 
 // Takes the steps of a file one after another, each on the book, balances and store that the last one left.
 fn take_steps(
+    rt: &impl Print,
     s: &[u8],
     calendar: &mut [u32; 480],
     tables: &mut [u32; 1824],
@@ -194,7 +202,7 @@ fn take_steps(
     let mut left = call_files::word_at(s, 0);
     while 0 < left {
         let step = steps::step_at(s, at);
-        book = take_step(s, step, calendar, tables, book, balances, claims, store);
+        book = take_step(rt, s, step, calendar, tables, book, balances, claims, store);
         at = step.lists.next;
         left -= 1;
     }
@@ -202,6 +210,7 @@ fn take_steps(
 
 // The same with a store and one word behind it. The array is handed on by reference first, so that its elements stay out of the proofs.
 fn take_all(
+    rt: &impl Print,
     s: &[u8],
     calendar: &mut [u32; 480],
     tables: &mut [u32; 1824],
@@ -209,17 +218,18 @@ fn take_all(
     claims: &mut [u8; 4096],
     store: &mut [u64; 32781],
 ) {
-    take_steps(s, calendar, tables, balances, claims, store);
+    take_steps(rt, s, calendar, tables, balances, claims, store);
 }
 
 // Takes the steps of a file on tables, balances and a store of zeros.
-fn run(s: &[u8]) {
+fn run(rt: &impl Print, s: &[u8]) {
     let mut calendar = [0u32; 480];
     let mut tables = [0u32; 1824];
     let mut balances = [0u64; 8192];
     let mut claims = [0u8; 4096];
     let mut store = [0u64; 32781];
     take_all(
+        rt,
         s,
         &mut calendar,
         &mut tables,
@@ -230,17 +240,17 @@ fn run(s: &[u8]) {
 }
 
 // Reads the file into a buffer and takes its steps.
-fn run_file(buffer: &mut [u8]) {
-    let n = call_files::read_file(b"case_runs.in", buffer);
-    run(&buffer[..n]);
+fn run_file(rt: &(impl Files + Print + Eprint + Alloc), buffer: &mut [u8]) {
+    let n = call_files::read_file(rt, b"case_runs.in", buffer);
+    run(rt, &buffer[..n]);
 }
 
 // The same with a whole buffer, handed on likewise.
-fn run_whole(buffer: &mut [u8; 786432]) {
-    run_file(buffer);
+fn run_whole(rt: &(impl Files + Print + Eprint + Alloc), buffer: &mut [u8; 786432]) {
+    run_file(rt, buffer);
 }
 
-fn main() {
+fn main(rt: HostRuntime) {
     let mut buffer = [0u8; 786432];
-    run_whole(&mut buffer);
+    run_whole(&rt, &mut buffer);
 }

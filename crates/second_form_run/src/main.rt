@@ -2,6 +2,8 @@
 // first with no room for its claim. Before it come a start off its piece and one with a piece of 0, after it the return of the whole
 // balance off the piece (document 02, card 6). It writes a line for each call: name, number, day, count, claims written and the par that
 // account 1 has lent account 2 after it; then April's claim in cents, and whether both forms leave the same balances and claim buffers.
+#![tactic(auto)]
+
 ghost use Rattle.std.specs.Prelude.{◌≤◌, ◌<◌};
 
 use book::{Book, Done};
@@ -53,14 +55,14 @@ fn fill_tables(tables: &mut [u32; 1824]) {
 }
 
 // Writes a call's line and answers the book after it.
-fn told(name: &[u8], done: Done, balances: &[u64; 8192]) -> Book {
-    print(name);
-    print_field(done.number as u64);
-    print_field(done.book.day as u64);
-    print_field(done.book.count as u64);
-    print_field(done.claims as u64);
-    print_field(balances[LENT]);
-    print_end();
+fn told(rt: &impl Print, name: &[u8], done: Done, balances: &[u64; 8192]) -> Book {
+    print(rt, name);
+    print_field(rt, done.number as u64);
+    print_field(rt, done.book.day as u64);
+    print_field(rt, done.book.count as u64);
+    print_field(rt, done.claims as u64);
+    print_field(rt, balances[LENT]);
+    print_end(rt);
     done.book
 }
 
@@ -103,6 +105,7 @@ fn close(
 
 // Makes a transfer in one form, with a piece of security 0, writes its line and answers the book after it.
 fn run_transfer(
+    rt: &impl Print,
     second: bool,
     name: &[u8],
     calendar: &[u32; 480],
@@ -128,11 +131,12 @@ fn run_transfer(
         &message,
         &mut claims,
     );
-    told(name, done, balances)
+    told(rt, name, done, balances)
 }
 
 // Makes a close in one form, writes its line and answers the book after it.
 fn run_close(
+    rt: &impl Print,
     second: bool,
     name: &[u8],
     calendar: &[u32; 480],
@@ -144,18 +148,18 @@ fn run_close(
     let mut message = [0u8; 4];
     writing::write_close(&mut message);
     let done = close(second, calendar, tables, book, balances, &message, claims);
-    told(name, done, balances)
+    told(rt, name, done, balances)
 }
 
 // Writes the interest of the claim that a buffer begins with.
-fn print_cents(claims: &[u8]) {
+fn print_cents(rt: &impl Print, claims: &[u8]) {
     match reading::read_claim(claims) {
         ReadClaim::Is(claim) => {
-            print(b"cents");
-            print_field(claim.interest.0);
-            print_end();
+            print(rt, b"cents");
+            print_field(rt, claim.interest.0);
+            print_end(rt);
         }
-        ReadClaim::Refused => print(b"no claim\n"),
+        ReadClaim::Refused => print(rt, b"no claim\n"),
     }
 }
 
@@ -173,6 +177,7 @@ fn loan(code: u8, sender: u8, receiver: u8, par: u32) -> Transfer {
 
 // Runs the transfers of the cases in one form and answers the book after them.
 fn run_loans(
+    rt: &impl Print,
     second: bool,
     calendar: &[u32; 480],
     tables: &[u32; 1824],
@@ -181,6 +186,7 @@ fn run_loans(
 ) -> Book {
     let start = loan(1, 1, 2, 50000);
     let book = run_transfer(
+        rt,
         second,
         b"start 50,000",
         calendar,
@@ -192,6 +198,7 @@ fn run_loans(
     );
     let back = loan(3, 2, 1, 20000);
     let book = run_transfer(
+        rt,
         second,
         b"return 20,000",
         calendar,
@@ -203,6 +210,7 @@ fn run_loans(
     );
     let less = loan(6, 2, 1, 15000);
     let book = run_transfer(
+        rt,
         second,
         b"ADSR 15,000",
         calendar,
@@ -214,6 +222,7 @@ fn run_loans(
     );
     let above = loan(6, 2, 1, 15001);
     run_transfer(
+        rt,
         second,
         b"ADSR 15,001",
         calendar,
@@ -227,6 +236,7 @@ fn run_loans(
 
 // Runs transfers that are refused for their pieces in one form and answers the book after them.
 fn run_refused(
+    rt: &impl Print,
     second: bool,
     calendar: &[u32; 480],
     tables: &[u32; 1824],
@@ -236,14 +246,17 @@ fn run_refused(
     let start = loan(1, 1, 2, 1500);
     let thousands = b"start 1,500 in pieces of 1,000";
     let book = run_transfer(
-        second, thousands, calendar, tables, 1000, book, balances, start,
+        rt, second, thousands, calendar, tables, 1000, book, balances, start,
     );
     let nothings = b"start 1,500 in pieces of 0";
-    run_transfer(second, nothings, calendar, tables, 0, book, balances, start)
+    run_transfer(
+        rt, second, nothings, calendar, tables, 0, book, balances, start,
+    )
 }
 
 // Runs the closes of the cases in one form, then the return of the whole balance.
 fn run_closes(
+    rt: &impl Print,
     second: bool,
     calendar: &[u32; 480],
     tables: &[u32; 1824],
@@ -253,16 +266,23 @@ fn run_closes(
 ) {
     let mut short = [0u8; 34];
     let early = b"close without room";
-    let book = run_close(second, early, calendar, tables, book, balances, &mut short);
-    let book = run_close(second, b"close", calendar, tables, book, balances, claims);
-    print_cents(claims);
+    let book = run_close(
+        rt, second, early, calendar, tables, book, balances, &mut short,
+    );
+    let book = run_close(
+        rt, second, b"close", calendar, tables, book, balances, claims,
+    );
+    print_cents(rt, claims);
     let whole = loan(3, 2, 1, 15000);
     let sevens = b"return 15,000 in pieces of 7";
-    run_transfer(second, sevens, calendar, tables, 7, book, balances, whole);
+    run_transfer(
+        rt, second, sevens, calendar, tables, 7, book, balances, whole,
+    );
 }
 
 // Runs the cases in one form.
 fn run_cases(
+    rt: &impl Print,
     second: bool,
     calendar: &[u32; 480],
     tables: &[u32; 1824],
@@ -270,42 +290,50 @@ fn run_cases(
     claims: &mut [u8; 70],
 ) {
     let opened = tracker::calls::claim_tracker_open(calendar, tables, balances, 20230331);
-    let book = told(b"opening", opened, balances);
-    let book = run_loans(second, calendar, tables, book, balances);
-    let book = run_refused(second, calendar, tables, book, balances);
-    run_closes(second, calendar, tables, book, balances, claims);
+    let book = told(rt, b"opening", opened, balances);
+    let book = run_loans(rt, second, calendar, tables, book, balances);
+    let book = run_refused(rt, second, calendar, tables, book, balances);
+    run_closes(rt, second, calendar, tables, book, balances, claims);
 }
 
 // Writes whether both forms leave the same balances and claim buffers.
 fn print_same(
+    rt: &impl Print,
     balances: &[u64; 8192],
     own_balances: &[u64; 8192],
     claims: &[u8; 70],
     own_claims: &[u8; 70],
 ) {
     if !call_files::same_balances(balances, own_balances) {
-        print(b"other balances\n");
+        print(rt, b"other balances\n");
         return;
     }
     if !check::same(claims, own_claims) {
-        print(b"other claims\n");
+        print(rt, b"other claims\n");
         return;
     }
-    print(b"the same balances and claims\n");
+    print(rt, b"the same balances and claims\n");
 }
 
-fn main() {
+fn main(rt: HostRuntime) {
     let mut calendar = [0u32; 480];
     fill_calendar(&mut calendar);
     let mut tables = [0u32; 1824];
     fill_tables(&mut tables);
     let mut balances = [0u64; 8192];
     let mut claims = [0u8; 70];
-    print(b"by value\n");
-    run_cases(false, &calendar, &tables, &mut balances, &mut claims);
+    print(&rt, b"by value\n");
+    run_cases(&rt, false, &calendar, &tables, &mut balances, &mut claims);
     let mut own_balances = [0u64; 8192];
     let mut own_claims = [0u8; 70];
-    print(b"the caller's own book\n");
-    run_cases(true, &calendar, &tables, &mut own_balances, &mut own_claims);
-    print_same(&balances, &own_balances, &claims, &own_claims);
+    print(&rt, b"the caller's own book\n");
+    run_cases(
+        &rt,
+        true,
+        &calendar,
+        &tables,
+        &mut own_balances,
+        &mut own_claims,
+    );
+    print_same(&rt, &balances, &own_balances, &claims, &own_claims);
 }

@@ -7,9 +7,10 @@ use book::{Book, Done};
 use call_files::entries::{Entry, Expected};
 use call_files::print;
 use check::same;
+use std::rt::Files;
 
 // Which parts of what a call gives differ from what it should give.
-#[derive(Drop)]
+#[derive(Clone, Copy)]
 struct Differences {
     number: bool,
     day: bool,
@@ -48,26 +49,26 @@ fn differs(d: Differences) -> bool {
 }
 
 // Writes a word where a part differs.
-fn print_word(is_different: bool, word: &[u8]) {
+fn print_word(rt: &impl Print, is_different: bool, word: &[u8]) {
     if is_different {
-        print(word);
+        print(rt, word);
     }
 }
 
 // Writes the line of a call that differs.
-fn print_differences(index: u32, d: Differences) {
-    print(b"call");
-    call_files::print_field(index as u64);
-    print(b" differs:");
-    print_word(d.number, b" number");
-    print_word(d.day, b" day");
-    print_word(d.count, b" count");
-    print_word(d.claims, b" claims");
-    print_word(d.balances, b" balances");
-    print_word(d.buffer, b" buffer");
-    print_word(d.words, b" words");
-    print_word(d.figures, b" figures");
-    call_files::print_end();
+fn print_differences(rt: &impl Print, index: u32, d: Differences) {
+    print(rt, b"call");
+    call_files::print_field(rt, index as u64);
+    print(rt, b" differs:");
+    print_word(rt, d.number, b" number");
+    print_word(rt, d.day, b" day");
+    print_word(rt, d.count, b" count");
+    print_word(rt, d.claims, b" claims");
+    print_word(rt, d.balances, b" balances");
+    print_word(rt, d.buffer, b" buffer");
+    print_word(rt, d.words, b" words");
+    print_word(rt, d.figures, b" figures");
+    call_files::print_end(rt);
 }
 
 // Fills a call's arguments.
@@ -244,26 +245,27 @@ fn try_entry(
 }
 
 // The totals with one more call.
-fn counted(totals: Totals, index: u32, d: Differences) -> Totals {
+fn counted(rt: &impl Print, totals: Totals, index: u32, d: Differences) -> Totals {
     if differs(d) {
-        print_differences(index, d);
+        print_differences(rt, index, d);
         return totals::with(totals, false);
     }
     totals::with(totals, true)
 }
 
 // The totals where the files end: one more that differs for a file that does not end with its last entry.
-fn ended(totals: Totals, at: usize, length: usize, file: &[u8]) -> Totals {
+fn ended(rt: &impl Print, totals: Totals, at: usize, length: usize, file: &[u8]) -> Totals {
     if at == length {
         return totals;
     }
-    print(file);
-    print(b" does not end with its last entry\n");
+    print(rt, file);
+    print(rt, b" does not end with its last entry\n");
     totals::with(totals, false)
 }
 
 // Tries the calls of a file, one after another. A proved loop has to end, so it counts them, up to more than a file holds.
 fn try_all(
+    rt: &impl Print,
     s: &[u8],
     t: &[u8],
     calendar: &mut [u32; 512],
@@ -286,17 +288,17 @@ fn try_all(
         let d = try_entry(
             s, call, t, expected, calendar, tables, balances, claims, words, left,
         );
-        totals = counted(totals, index, d);
+        totals = counted(rt, totals, index, d);
         at = call.lists.next;
         place = expected.next;
         index += 1;
     }
-    let totals = ended(totals, at, s.len(), b"calls.in");
-    ended(totals, place, t.len(), b"calls.expected")
+    let totals = ended(rt, totals, at, s.len(), b"calls.in");
+    ended(rt, totals, place, t.len(), b"calls.expected")
 }
 
 // Tries the calls of a file with buffers that hold their arguments.
-fn try_file(s: &[u8], t: &[u8]) -> Totals {
+fn try_file(rt: &impl Print, s: &[u8], t: &[u8]) -> Totals {
     let mut calendar = [0u32; 512];
     let mut tables = [0u32; 1856];
     let mut balances = [0u64; 8224];
@@ -304,6 +306,7 @@ fn try_file(s: &[u8], t: &[u8]) -> Totals {
     let mut words = [0u64; 32812];
     let mut left = [0u64; 32812];
     try_all(
+        rt,
         s,
         t,
         &mut calendar,
@@ -316,20 +319,24 @@ fn try_file(s: &[u8], t: &[u8]) -> Totals {
 }
 
 // Reads the two files and tries the calls.
-fn try_stored(calls: &mut [u8], expected: &mut [u8]) {
-    let n = call_files::read_file(b"calls.in", calls);
-    let m = call_files::read_file(b"calls.expected", expected);
-    totals::print_totals(try_file(&calls[..n], &expected[..m]), b" calls");
+fn try_stored(rt: &(impl Files + Print + Eprint + Alloc), calls: &mut [u8], expected: &mut [u8]) {
+    let n = call_files::read_file(rt, b"calls.in", calls);
+    let m = call_files::read_file(rt, b"calls.expected", expected);
+    totals::print_totals(rt, try_file(rt, &calls[..n], &expected[..m]), b" calls");
 }
 
 // The same with whole buffers. The arrays are handed on by reference first, so that their elements stay out of the proofs.
-fn try_whole(calls: &mut [u8; 2621440], expected: &mut [u8; 262144]) {
-    try_stored(calls, expected);
+fn try_whole(
+    rt: &(impl Files + Print + Eprint + Alloc),
+    calls: &mut [u8; 2621440],
+    expected: &mut [u8; 262144],
+) {
+    try_stored(rt, calls, expected);
 }
 
 // Tries the stored calls and writes how many agree.
-pub fn try_calls() {
+pub fn try_calls(rt: &(impl Files + Print + Eprint + Alloc)) {
     let mut calls = [0u8; 2621440];
     let mut expected = [0u8; 262144];
-    try_whole(&mut calls, &mut expected);
+    try_whole(rt, &mut calls, &mut expected);
 }

@@ -3,7 +3,7 @@ ghost use Rattle.std.specs.Prelude.{not, T};
 ghost use Rattle.std.specs.Float.Ieee.{is_nan};
 
 // What a forecast gives, each double as its bits.
-#[derive(Drop)]
+#[derive(Clone, Copy)]
 pub struct Bits {
     pub number: u16,
     pub pay: u64,

@@ -7,9 +7,10 @@ use book::Book;
 use call_files::{part, plus, print};
 use check::same;
 use records::Answer;
+use std::rt::Files;
 
 // Where the parts of a stream stand in the file.
-#[derive(Drop)]
+#[derive(Clone, Copy)]
 struct Stream {
     book: usize,
     book_length: usize,
@@ -22,7 +23,7 @@ struct Stream {
 
 // How far a stream is served: the book, the places in the input and in what should be written, whether all that was written is the same,
 // whether another run may work more, and whether a 5 has ended the stream.
-#[derive(Drop)]
+#[derive(Clone, Copy)]
 struct Run {
     book: Book,
     at: usize,
@@ -190,17 +191,17 @@ fn try_one(s: &[u8], t: Stream, balances: &mut [u64], output: &mut [u8]) -> bool
 }
 
 // The totals with one more stream.
-fn counted(totals: Totals, index: u32, agrees: bool) -> Totals {
+fn counted(rt: &impl Print, totals: Totals, index: u32, agrees: bool) -> Totals {
     if !agrees {
-        print(b"stream");
-        call_files::print_field(index as u64);
-        print(b" differs\n");
+        print(rt, b"stream");
+        call_files::print_field(rt, index as u64);
+        print(rt, b" differs\n");
     }
     totals::with(totals, agrees)
 }
 
 // Tries the streams of a file, one after another.
-fn try_all(s: &[u8], balances: &mut [u64], output: &mut [u8]) -> Totals {
+fn try_all(rt: &impl Print, s: &[u8], balances: &mut [u64], output: &mut [u8]) -> Totals {
     let mut totals = totals::none();
     let mut at: usize = 0;
     let mut index: u32 = 0;
@@ -209,7 +210,7 @@ fn try_all(s: &[u8], balances: &mut [u64], output: &mut [u8]) -> Totals {
             return totals;
         }
         let t = stream_at(s, at);
-        totals = counted(totals, index, try_one(s, t, balances, output));
+        totals = counted(rt, totals, index, try_one(s, t, balances, output));
         at = t.next;
         index += 1;
     }
@@ -217,20 +218,30 @@ fn try_all(s: &[u8], balances: &mut [u64], output: &mut [u8]) -> Totals {
 }
 
 // Reads the file and tries the streams.
-fn try_stored(file: &mut [u8], balances: &mut [u64], output: &mut [u8]) {
-    let n = call_files::read_file(b"streams.in", file);
-    totals::print_totals(try_all(&file[..n], balances, output), b" streams");
+fn try_stored(
+    rt: &(impl Files + Print + Eprint + Alloc),
+    file: &mut [u8],
+    balances: &mut [u64],
+    output: &mut [u8],
+) {
+    let n = call_files::read_file(rt, b"streams.in", file);
+    totals::print_totals(rt, try_all(rt, &file[..n], balances, output), b" streams");
 }
 
 // The same with whole buffers. The arrays are handed on by reference first, so that their elements stay out of the proofs.
-fn try_whole(file: &mut [u8; 1310720], balances: &mut [u64; 8192], output: &mut [u8; 131072]) {
-    try_stored(file, balances, output);
+fn try_whole(
+    rt: &(impl Files + Print + Eprint + Alloc),
+    file: &mut [u8; 1310720],
+    balances: &mut [u64; 8192],
+    output: &mut [u8; 131072],
+) {
+    try_stored(rt, file, balances, output);
 }
 
 // Tries the stored streams and writes how many agree.
-pub fn try_streams() {
+pub fn try_streams(rt: &(impl Files + Print + Eprint + Alloc)) {
     let mut file = [0u8; 1310720];
     let mut balances = [0u64; 8192];
     let mut output = [0u8; 131072];
-    try_whole(&mut file, &mut balances, &mut output);
+    try_whole(rt, &mut file, &mut balances, &mut output);
 }

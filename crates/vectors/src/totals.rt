@@ -1,9 +1,8 @@
 // How many vectors agree and how many differ.
 use call_files::print;
-use libc::STDOUT_FILENO;
 
 // Both counts, each up to the largest number.
-#[derive(Drop)]
+#[derive(Clone, Copy)]
 pub struct Totals {
     pub agree: u32,
     pub differ: u32,
@@ -37,10 +36,10 @@ pub fn with(totals: Totals, agrees: bool) -> Totals {
 }
 
 // Writes how many vectors agree and how many differ; words name what they are.
-pub fn print_totals(totals: Totals, words: &[u8]) {
-    io::print_decimal(STDOUT_FILENO, totals.agree as u64);
-    print(words);
-    print(b" agree,");
-    call_files::print_field(totals.differ as u64);
-    print(b" differ\n");
+pub fn print_totals(rt: &impl Print, totals: Totals, words: &[u8]) {
+    call_files::print_number(rt, totals.agree as u64);
+    print(rt, words);
+    print(rt, b" agree,");
+    call_files::print_field(rt, totals.differ as u64);
+    print(rt, b" differ\n");
 }

@@ -1,0 +1,9 @@
+-- The buffer is filled from its start, and never past its end.
+use Rattle.std.proofs.Common.{◌-◌, ◌≤◌, length}
+use Rattle.claimrun.proofs.fill.Given as goal
+
+abbrev pub invariant-loop-at : goal.invariant-loop-at
+invariant-loop-at g l = l.at ≤ length l.buf
+
+abbrev pub decreases-loop-at : goal.decreases-loop-at
+decreases-loop-at g l = length l.buf - l.at
