@@ -7,8 +7,6 @@ import unittest
 import common
 
 SCRIPTS = ("build", "test", "example")
-
-
 OK = "rt: ok; handles allowed: none; must-fail edits: 4 refused%s; every proof and must-fail edit was done in this run\n5 passed, 0 failed\n"
 OTHERS = 7                                           # the tests that tools/test runs beside rt ci
 ENDS = (                                             # what rt ci prints, its status, what tools/test counts as passed and failed
