@@ -89,9 +89,9 @@
 #include <stdint.h>
 
 #define CLAIM_TRACKER_VERSION_MAJOR 2
-#define CLAIM_TRACKER_VERSION_MINOR 4
+#define CLAIM_TRACKER_VERSION_MINOR 3
 #define CLAIM_TRACKER_VERSION_PATCH 0
-#define CLAIM_TRACKER_VERSION "2.4.0"
+#define CLAIM_TRACKER_VERSION "2.3.0"
 
 /* Every function answers a number that a caller has to look at, and takes no null pointer; compilers that can, watch over both. */
 #if defined(__GNUC__)

@@ -15,7 +15,7 @@ from dataclasses import dataclass
 from enum import IntEnum
 from typing import NamedTuple
 
-__version__ = "2.4.0"
+__version__ = "2.3.0"
 
 ACCOUNTS = 16
 SECURITIES = 16

@@ -58,7 +58,7 @@ class Library(unittest.TestCase):
     @classmethod
     def setUpClass(cls):
         if not os.path.exists(LIBRARY):
-            raise AssertionError("there is no target/staticlib/libtracker.a: rt staticlib tracker builds it")
+            raise AssertionError("there is no target/staticlib/libtracker.a: tools/build builds it")
 
     def setUp(self):
         self.folder = tempfile.mkdtemp()

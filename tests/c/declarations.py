@@ -96,10 +96,10 @@ def c_type(text):
 
 
 def exports():
-    """Each export of the crate tracker: what it returns and its arguments, as the header is to have them."""
+    """Each export of the crate tracker_c: what it returns and its arguments, as the header is to have them."""
     found = {}
-    form = r'#\[no_mangle\]\s*pub extern "C" fn (\w+)\(([^)]*)\)\s*->\s*(\w+)'
-    for name, arguments, returned in re.findall(form, code_text("crates", "tracker", "src", "*.rt")):
+    form = r'#\[unsafe\(no_mangle\)\]\s*pub extern "C" fn (\w+)\(([^)]*)\)\s*->\s*(\w+)'
+    for name, arguments, returned in re.findall(form, code_text("crates", "tracker_c", "src", "*.rt")):
         found[name] = (c_type(returned), [one for argument in arguments_of(arguments) for one in c_types(*argument)])
     return found
 

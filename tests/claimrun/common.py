@@ -209,7 +209,7 @@ class Claimrun(unittest.TestCase):
     @classmethod
     def setUpClass(cls):
         if not os.path.exists(PROGRAM):
-            raise AssertionError("there is no %s: rt check claimrun builds it" % PROGRAM)
+            raise AssertionError("there is no %s: tools/build builds it" % PROGRAM)
 
     def setUp(self):
         self.folder = tempfile.mkdtemp()

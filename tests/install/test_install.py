@@ -55,7 +55,7 @@ class Install(building.Library):
     def setUpClass(cls):
         super().setUpClass()
         if not os.path.exists(building.CLAIMRUN):
-            raise AssertionError("there is no target/bin/claimrun: rt check claimrun builds it")
+            raise AssertionError("there is no target/bin/claimrun: tools/build builds it")
 
     def install(self, *arguments, command=COMMAND, **environment):
         """A run of tools/install."""
@@ -105,9 +105,9 @@ class Arguments(Install):
         command = self.copy()
         run = self.install(self.path("prefix"), command=command)
         self.assertEqual((run.returncode, run.stdout), (1, ""))
-        self.assertEqual(run.stderr, "tools/install: nothing is installed yet; first: rt check claimrun, rt staticlib tracker\n")
+        self.assertEqual(run.stderr, "tools/install: nothing is installed yet; first: tools/build\n")
         run = self.install(self.path("prefix"), command=command, CC="no-such-compiler")
-        self.assertIn("rt staticlib tracker, a C compiler (no-such-compiler)\n", run.stderr)
+        self.assertIn("first: tools/build, a C compiler (no-such-compiler)\n", run.stderr)
         self.assertFalse(os.path.exists(self.path("prefix")))
 
     def test_another_version(self):
@@ -118,7 +118,7 @@ class Arguments(Install):
         os.chmod(self.file("repository/target/bin/claimrun", "#!/bin/sh\necho claimrun 0.9.0\n"), 0o755)
         run = self.install(self.path("prefix"), command=command)
         self.assertEqual((run.returncode, run.stdout), (1, ""))
-        self.assertIn("is not version %s; first: rt check claimrun\n" % VERSION, run.stderr)
+        self.assertIn("is not version %s; first: tools/build\n" % VERSION, run.stderr)
         self.assertFalse(os.path.exists(self.path("prefix")))
 
 

@@ -157,7 +157,7 @@ def csv_values(cells):
             continue
         if column in NUMBER_COLUMNS and (number := written_number(cell)) is not None:
             values[column] = number
-        elif column == "close" and cell.strip() == "true":
+        elif column == "close" and cell.replace("_", "").strip() == "true":
             values[column] = True
         else:
             values[column] = cell if column in ("text1", "text2") else cell.strip()

@@ -62,7 +62,7 @@ def program(path=None):
     path = os.path.abspath(path or PROGRAM)
     if not os.path.isfile(path):
         raise Fault(path, "claimrun is not built there",
-                    "run 'rt check claimrun' in the repository, which builds target/bin/claimrun, or --claimrun PATH")
+                    "run 'tools/build' in the repository, which builds target/bin/claimrun, or --claimrun PATH")
     if not os.access(path, os.X_OK):
         raise Fault(path, "claimrun cannot be run there", "an executable file")
     return path

@@ -98,7 +98,7 @@ class Desk(unittest.TestCase):
     @classmethod
     def setUpClass(cls):
         if not os.path.exists(running.PROGRAM):
-            raise AssertionError("there is no target/bin/claimrun: rt check claimrun builds it")
+            raise AssertionError("there is no target/bin/claimrun: tools/build builds it")
 
     def setUp(self):
         self.folder = tempfile.mkdtemp()

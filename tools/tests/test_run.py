@@ -67,7 +67,7 @@ class Runs(common.Desk):
     def test_claimrun_is_not_built(self):
         error = self.bad("run", self.file("s.toml", BOOK + MESSAGES), "--claimrun", self.path("none"))
         self.assertIn("claimrun is not built there", error)
-        self.assertIn("rt check claimrun", error)
+        self.assertIn("tools/build", error)
         self.assertIn("claimrun cannot be run there", self.bad(
             "run", self.path("s.toml"), "--claimrun", self.file("plain", "")))
 

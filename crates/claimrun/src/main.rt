@@ -21,7 +21,7 @@ const HELP_WORD: [u8; 6] = *b"--help";
 
 const VERSION_WORD: [u8; 9] = *b"--version";
 
-const VERSION: [u8; 15] = *b"claimrun 2.4.0\n";
+const VERSION: [u8; 15] = *b"claimrun 2.3.0\n";
 
 const ARGUMENTS: &str = "claimrun: takes no arguments other than --help or --version\n";
 
