@@ -411,18 +411,6 @@ fn open<R: Files>(rt: &R, path: &[u8]) -> io::Result<R::File> {
     }
 }
 
-// Says on standard error what failed, and why, in the system's words; the number that the library writes behind these is left out.
-fn fail(rt: &(impl Eprint + Alloc), what: &[u8], error: io::Error) {
-    let what = str::from_utf8(what).unwrap_or("a path");
-    let _ = match format!(in rt.alloc(); "{error}") {
-        Ok(text) => match text.as_str().split_once(" (os error ") {
-            Some((words, _)) => eprintln!(rt; "{what}: {words}"),
-            None => eprintln!(rt; "{what}: {text}"),
-        },
-        Err(_) => eprintln!(rt; "{what}: {error}"),
-    };
-}
-
 // Reads until a buffer is full, the file ends or a read fails, and answers how many bytes stand at the buffer's start.
 fn read_full(file: &mut impl Read, buffer: &mut [u8]) -> usize
     ensures { IsPrefixLen result buffer.new }
@@ -446,7 +434,7 @@ pub fn read_file(rt: &(impl Files + Eprint + Alloc), path: &[u8], buffer: &mut [
     match open(rt, path) {
         Ok(mut file) => read_full(&mut file, buffer),
         Err(error) => {
-            fail(rt, path, error);
+            failures::tell(rt, str::from_utf8(path).unwrap_or("a path"), error);
             0
         }
     }

@@ -1,7 +1,7 @@
 -- The cases marked P, the mistakes that document 01 rules out, and a list of calls, each as a row: an opening, calls with real message
 -- bytes, and every answer written out. One theorem covers all rows, run on the stored book, at full size: 480 words of calendar, 1,824 of
 -- tables, 8,192 balances. A second one computes the ledger of a list of four calls; that run and ledger agree on every list is
--- `every-history`.
+-- `every_history`.
 use mathlib.Core.Path.{◌≡◌, refl}
 use mathlib.Core.Bool.{Bool, true, false, ◌&&◌}
 use mathlib.Core.List.{List, [], ◌∷◌, ◌++◌}

@@ -40,17 +40,6 @@ fn is_passing(rt: &impl Clock, error: io::Error) -> bool {
     }
 }
 
-// Says on standard error what failed, and why, in the system's words; the number that the library writes behind these is left out.
-fn fail(rt: &(impl Eprint + Alloc), what: &str, error: io::Error) {
-    let _ = match format!(in rt.alloc(); "{error}") {
-        Ok(text) => match text.as_str().split_once(" (os error ") {
-            Some((words, _)) => eprintln!(rt; "{what}: {words}"),
-            None => eprintln!(rt; "{what}: {text}"),
-        },
-        Err(_) => eprintln!(rt; "{what}: {error}"),
-    };
-}
-
 // One read; one that fails in passing is tried again. The tries count down from a number that no run uses up.
 fn read_some(rt: &impl Clock, from: &mut impl Read, buf: &mut [u8]) -> io::Result<usize>
     ensures { ReadsAtMost result buf.new }
@@ -95,7 +84,7 @@ fn write_out(rt: &(impl Print + Eprint + Clock + Alloc), buf: &[u8]) -> bool {
     while at < buf.len() {
         match write_some(rt, &buf[at..]) {
             Ok(0) => {
-                fail(
+                failures::tell(
                     rt,
                     "claimrun: standard output",
                     io::Error::from(ErrorKind::WriteZero),
@@ -104,7 +93,7 @@ fn write_out(rt: &(impl Print + Eprint + Clock + Alloc), buf: &[u8]) -> bool {
             }
             Ok(n) => at += n,
             Err(error) => {
-                fail(rt, "claimrun: standard output", error);
+                failures::tell(rt, "claimrun: standard output", error);
                 return false;
             }
         }
@@ -136,7 +125,7 @@ fn read_in(
                 failed: false,
             },
             Err(error) => {
-                fail(rt, "claimrun: standard input", error);
+                failures::tell(rt, "claimrun: standard input", error);
                 Got {
                     bytes: 0,
                     failed: true,
