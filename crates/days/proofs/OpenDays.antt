@@ -15,8 +15,7 @@ use borrow.Author.Tests.{eqb-true, eqb-false, ltb-true, ltb-false, leb-false}
 use Rattle.lists.specs.Tests.{and_left, and_right, and_both, or_false_left, or_false_right, cond_true, cond_false}
 use Rattle.days.specs.Days.{last_date, day_of, is_date, word_of, date_of, length_of, bit_on, bad_from, bad_calendar, is_open, lowest_from, seek_from, open_at, open_after, open_from, highest_below, last_below, last_open, as_day, day_number}
 use Rattle.days.specs.declared.Date.{Date}
-use Rattle.days.specs.declared.Day.{Day}
-use Rattle.days.specs.declared.Day.TheVariants.{On, Nothing}
+use Rattle.std.proofs.Common.{Option, Some, None}
 use Rattle.days.proofs.Parts.{parts, word_lt, date_parts, date_made, made_word, made_day, date_order, order_date, date_positive}
 use Rattle.days.proofs.Bits.{Lowest, lowest, bit_lt, Highest, highest, positive}
 use Rattle.days.proofs.Lengths.{word_length_le}
@@ -355,22 +354,22 @@ pub day_number_lem : (n : ℕ) → day_number (as_day n) ≡ n
 unfolding as_day day_number
 day_number_lem n = go (eqb n 0) refl
   where
-    go : (b : Bool) → eqb n 0 ≡ b → day_number (cond b Nothing (On (record { 0 = n }))) ≡ n
+    go : (b : Bool) → eqb n 0 ≡ b → day_number (cond b None (Some (record { 0 = n }))) ≡ n
     go true e = sym (eqb-true n 0 e)
     go false e = refl
 
 -- what a case of the answer says of the number
-pub on_day_lem : (n : ℕ) {r : Day} {d : Date} → r ≡ as_day n → r ≡ On d → d.0 ≡ n
+pub on_day_lem : (n : ℕ) {r : Option Date} {d : Date} → r ≡ as_day n → r ≡ Some d → d.0 ≡ n
 unfolding day_number
 on_day_lem n e f = ap day_number (sym f ∙ e) ∙ day_number_lem n
 
-pub no_day : (n : ℕ) {r : Day} → r ≡ as_day n → r ≡ Nothing → n ≡ 0
+pub no_day : (n : ℕ) {r : Option Date} → r ≡ as_day n → r ≡ None → n ≡ 0
 unfolding day_number
 no_day n e f = sym (ap day_number (sym f ∙ e) ∙ day_number_lem n)
 
-pub day_on : (n : ℕ) {r : Day} {d : Date} → r ≡ as_day n → r ≡ On d → n ≡ 0 → ⊥
+pub day_on : (n : ℕ) {r : Option Date} {d : Date} → r ≡ as_day n → r ≡ Some d → n ≡ 0 → ⊥
 unfolding as_day
 day_on n {r} {d} e f z =
-    let a : On d ≡ Nothing = sym f ∙ e ∙ ap as_day z in
+    let a : Some d ≡ None = sym f ∙ e ∙ ap as_day z in
     let b : ◌≡◌ {A = ℕ} 0 1 = cc in
     omega arith

@@ -4,12 +4,11 @@ use mathlib.Core.Bool.{Bool, true, false, cond}
 use Prim.Native.Nat.{ℕ, suc, ◌+◌, ◌-◌, ◌*◌, ◌/◌, ◌%◌, ◌≤◌, ◌<◌}
 use native.Mathlib.Omega.{arith}
 use lib.Dec.{leb}
-use borrow.Author.Tests.{leb-true, le-leb}
+use borrow.Author.Tests.{leb-true, le-leb, ne_eqb}
 use Rattle.lists.specs.Tests.{and_left, and_right}
-use Rattle.days.specs.Days.{first_date, last_date, year_of, month_of, day_of, is_date, month_length, checked, word_of, date_of, length_of}
+use Rattle.days.specs.Days.{as_day, first_date, last_date, year_of, month_of, day_of, is_date, month_length, checked, word_of, date_of, length_of}
 use Rattle.days.specs.declared.Date.{Date}
-use Rattle.days.specs.declared.Checked.{Checked}
-use Rattle.days.specs.declared.Checked.TheVariants.{Is, Not}
+use Rattle.std.proofs.Common.{Option, Some, None}
 use Rattle.days.proofs.Lengths.{length_le}
 
 pub record Parts (n : ℕ) : Type 0 where
@@ -93,20 +92,31 @@ date_positive m d e = omega arith
 
 -- ---- what the checking constructor's answer says
 
-abbrev pub Says : Checked → ℕ → Type 0
-Says (Is d) n = (is_date n ≡ true) × (d.0 ≡ n)
-Says Not n = is_date n ≡ false
+abbrev pub Says : Option Date → ℕ → Type 0
+Says (Some d) n = (is_date n ≡ true) × (d.0 ≡ n)
+Says None n = is_date n ≡ false
 
 says : (n : ℕ) → Says (checked n) n
 unfolding checked
 says n = go (is_date n) refl
   where
-    go : (b : Bool) → is_date n ≡ b → Says (cond b (Is (record { 0 = n })) Not) n
+    go : (b : Bool) → is_date n ≡ b → Says (cond b (Some (record { 0 = n })) None) n
     go true e = (e, refl)
     go false e = e
 
-pub is_date_lem : (n : ℕ) {r : Checked} {d : Date} → r ≡ checked n → r ≡ Is d → (is_date n ≡ true) × (d.0 ≡ n)
-is_date_lem n e f = subst (λ (x : Checked). Says x n) (sym e ∙ f) (says n)
+pub is_date_lem : (n : ℕ) {r : Option Date} {d : Date} → r ≡ checked n → r ≡ Some d → (is_date n ≡ true) × (d.0 ≡ n)
+is_date_lem n e f = subst (λ (x : Option Date). Says x n) (sym e ∙ f) (says n)
 
-pub not_date : (n : ℕ) {r : Checked} → r ≡ checked n → r ≡ Not → is_date n ≡ false
-not_date n e f = subst (λ (x : Checked). Says x n) (sym e ∙ f) (says n)
+pub not_date : (n : ℕ) {r : Option Date} → r ≡ checked n → r ≡ None → is_date n ≡ false
+not_date n e f = subst (λ (x : Option Date). Says x n) (sym e ∙ f) (says n)
+
+-- ---- what a search answers
+
+-- the date found, as the definition's number of a day, and no date for 0
+pub found_day : (m d : ℕ) {r n : ℕ} → r ≡ date_of m d → r ≡ n → Some (record { 0 = r }) ≡ as_day n
+unfolding as_day
+found_day m d {r} {n} e f = rw (← f, ne_eqb r 0 (λ (z : r ≡ 0). date_positive m d (sym e ∙ z))) refl
+
+pub nothing_found : {n : ℕ} → 0 ≡ n → None ≡ as_day n
+unfolding as_day
+nothing_found {n} e = rw (← e) refl

@@ -1,10 +1,7 @@
 -- Document 01, section Days: dates, the calendar and its open days. A date is its number yyyymmdd, so date order is number order.
 -- Where there is no day, the number is 0, which is no date.
-use Rattle.std.specs.Prelude.{Bool, false, cond, ◌&&◌, ◌||◌, List, [], ◌∷◌, ℕ, zero, suc, ◌+◌, ◌-◌, ◌*◌, ◌/◌, ◌%◌, ◌^◌, eqb, ltb, leb, drop, get_or}
-use Rattle.days.specs.declared.Checked.{Checked}
-use Rattle.days.specs.declared.Checked.TheVariants.{Is, Not}
-use Rattle.days.specs.declared.Day.{Day}
-use Rattle.days.specs.declared.Day.TheVariants.{On, Nothing}
+use Rattle.std.specs.Prelude.{Bool, false, cond, ◌&&◌, ◌||◌, List, [], ◌∷◌, ℕ, zero, suc, ◌+◌, ◌-◌, ◌*◌, ◌/◌, ◌%◌, ◌^◌, eqb, ltb, leb, drop, get_or, Option, Some, None}
+use Rattle.days.specs.declared.Date.{Date}
 
 -- ---- dates
 
@@ -41,8 +38,8 @@ is_date n =
     && leb (day_of n) (month_length (year_of n) (month_of n))))))
 
 -- What the checking constructor answers: the date, or that the number is none.
-unfoldable pub checked : ℕ → Checked
-checked n = cond (is_date n) (Is (record { 0 = n })) Not
+unfoldable pub checked : ℕ → Option Date
+checked n = cond (is_date n) (Some (record { 0 = n })) None
 
 -- ---- the calendar
 
@@ -121,9 +118,9 @@ last_open calendar = last_below calendar calendar_words
 -- ---- the answer of a search
 
 -- The case for a number, and the number of a case: a day, or 0 where there is none.
-unfoldable pub as_day : ℕ → Day
-as_day n = cond (eqb n 0) Nothing (On (record { 0 = n }))
+unfoldable pub as_day : ℕ → Option Date
+as_day n = cond (eqb n 0) None (Some (record { 0 = n }))
 
-unfoldable pub day_number : Day → ℕ
-day_number (On d) = d.0
-day_number Nothing = 0
+unfoldable pub day_number : Option Date → ℕ
+day_number (Some d) = d.0
+day_number None = 0

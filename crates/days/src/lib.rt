@@ -7,23 +7,9 @@ ghost use Rattle.days.specs.Days.{is_date, leap_day, month_length, checked, word
 ghost use Rattle.days.specs.Days.{is_open, lowest_from, seek_from, open_at, open_after, open_from, last_open, as_day};
 ghost use Rattle.days.specs.MemoDay.{before_memo, day_within, six_months_before};
 
-// A date: the number yyyymmdd.
-#[derive(Clone, Copy)]
+// A date: the number yyyymmdd, so date order is number order.
+#[derive(Clone, Copy, Debug, PartialEq, Eq, PartialOrd, Ord)]
 pub struct Date(pub u32);
-
-// The answer of the checking constructor.
-#[derive(Clone, Copy)]
-pub enum Checked {
-    Is(Date),
-    Not,
-}
-
-// The answer of a search for an open day.
-#[derive(Clone, Copy)]
-pub enum Day {
-    On(Date),
-    Nothing,
-}
 
 impl Date {
     pub const FIRST: Date = Date(20000101);
@@ -31,34 +17,34 @@ impl Date {
     pub const LAST: Date = Date(20391231);
 
     // The date with the number n, if there is one.
-    pub fn new(n: u32) -> Checked
+    pub fn new(n: u32) -> Option<Date>
         ensures { result ≡ checked n }
     {
         if n < Self::FIRST.0 {
-            return Checked::Not;
+            return None;
         }
         if Self::LAST.0 < n {
-            return Checked::Not;
+            return None;
         }
         let m = n / 100 % 100;
         if m < 1 {
-            return Checked::Not;
+            return None;
         }
         if 12 < m {
-            return Checked::Not;
+            return None;
         }
         let d = n % 100;
         if d < 1 {
-            return Checked::Not;
+            return None;
         }
         // Every month has 28 days.
         if d <= 28 {
-            return Checked::Is(Date(n));
+            return Some(Date(n));
         }
         if month_length(n / 10000, m) < d {
-            return Checked::Not;
+            return None;
         }
-        Checked::Is(Date(n))
+        Some(Date(n))
     }
 }
 
@@ -104,14 +90,11 @@ fn bad_year(y: u32, words: &[u32]) -> bool
     requires { (y < 40) × (length words.now ≡ 12) }
     ensures { result ≡ bad_from (12 * y) words.now }
 {
-    let mut m: u32 = 0;
-    while m < 12 {
+    for m in 0..12 {
         let n = month_length(2000 + y, m + 1);
-        let w = words[m as usize];
-        if w >> n != 0 {
+        if words[m as usize] >> n != 0 {
             return true;
         }
-        m += 1;
     }
     false
 }
@@ -121,13 +104,11 @@ pub fn bad_calendar(calendar: &[u32]) -> bool
     requires { length calendar.now ≡ 480 }
     ensures { result ≡ bad_calendar calendar.now }
 {
-    let mut y: u32 = 0;
-    while y < 40 {
+    for y in 0..40 {
         let a = 12 * (y as usize);
         if bad_year(y, &calendar[a..a + 12]) {
             return true;
         }
-        y += 1;
     }
     false
 }
@@ -138,11 +119,11 @@ pub fn is_open(calendar: &[u32], n: u32) -> bool
     ensures { result ≡ is_open calendar.now n }
 {
     match Date::new(n) {
-        Checked::Is(_) => {
+        Some(_) => {
             let w = calendar[word_of(n)];
             (w >> (n % 100 - 1)) % 2 == 1
         }
-        Checked::Not => false,
+        None => false,
     }
 }
 
@@ -154,47 +135,33 @@ fn lowest_from(w: u32, k: u32) -> u32
     u32::trailing_zeros(w & (0xffff_ffff << k))
 }
 
-// The first open day at bit k0 of word m0 or later, 0 where there is none.
-fn seek(calendar: &[u32], m0: usize, k0: u32) -> u32
+// The first open day at bit k0 of word m0 or later.
+fn seek(calendar: &[u32], m0: usize, k0: u32) -> Option<Date>
     requires { (k0 < 32) × (length calendar.now ≡ 480) }
-    ensures { result ≡ seek_from (drop m0 calendar.now) m0 k0 }
+    ensures { result ≡ as_day (seek_from (drop m0 calendar.now) m0 k0) }
 {
-    let mut m = m0;
     let mut k = k0;
-    while m < calendar.len() {
+    for m in m0..calendar.len() {
         let d = lowest_from(calendar[m], k);
         if d < 32 {
-            return date_of(m, d);
+            return Some(Date(date_of(m, d)));
         }
-        m += 1;
         k = 0;
     }
-    0
-}
-
-// The answer for a number: 0 is no day.
-fn as_day(n: u32) -> Day
-    ensures { result ≡ as_day n }
-{
-    if n == 0 {
-        return Day::Nothing;
-    }
-    Day::On(Date(n))
+    None
 }
 
 // The first open day from a date on, past its first skip bits.
-fn open_at(calendar: &[u32], n: u32, skip: u32) -> Day
+fn open_at(calendar: &[u32], n: u32, skip: u32) -> Option<Date>
     requires { (length calendar.now ≡ 480) × (skip ≤ 1) }
     ensures { result ≡ as_day (open_at calendar.now n skip) }
 {
-    match Date::new(n) {
-        Checked::Is(_) => as_day(seek(calendar, word_of(n), n % 100 - 1 + skip)),
-        Checked::Not => Day::Nothing,
-    }
+    Date::new(n)?;
+    seek(calendar, word_of(n), n % 100 - 1 + skip)
 }
 
 // The first open day after a date.
-pub fn open_after(calendar: &[u32], n: u32) -> Day
+pub fn open_after(calendar: &[u32], n: u32) -> Option<Date>
     requires { length calendar.now ≡ 480 }
     ensures { result ≡ as_day (open_after calendar.now n) }
 {
@@ -202,7 +169,7 @@ pub fn open_after(calendar: &[u32], n: u32) -> Day
 }
 
 // The first open day on or after a date.
-pub fn open_from(calendar: &[u32], n: u32) -> Day
+pub fn open_from(calendar: &[u32], n: u32) -> Option<Date>
     requires { length calendar.now ≡ 480 }
     ensures { result ≡ as_day (open_from calendar.now n) }
 {
@@ -210,19 +177,17 @@ pub fn open_from(calendar: &[u32], n: u32) -> Day
 }
 
 // The last open day of a calendar.
-pub fn last_open(calendar: &[u32]) -> Day
+pub fn last_open(calendar: &[u32]) -> Option<Date>
     requires { length calendar.now ≡ 480 }
     ensures { result ≡ as_day (last_open calendar.now) }
 {
-    let mut m: usize = 480;
-    while 0 < m {
-        m -= 1;
+    for m in (0..480).rev() {
         let w = calendar[m];
         if w != 0 {
-            return as_day(date_of(m, 31 - u32::leading_zeros(w)));
+            return Some(Date(date_of(m, 31 - u32::leading_zeros(w))));
         }
     }
-    Day::Nothing
+    None
 }
 
 // The first day under the 2023 memo.

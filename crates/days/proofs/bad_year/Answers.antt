@@ -9,14 +9,14 @@ use Rattle.days.proofs.bad_year.Goals as goal
 pub loop-m-init : goal.loop-m-init
 loop-m-init c = judge_start _ _
 
-pub overflow_shr-w : goal.overflow_shr-w
-overflow_shr-w c = let l = length_le (2000 + c.args.y) (c.loop-m.m + 1) (omega arith) (omega (arith, c.requires.0)) (omega arith) (omega arith) in omega (arith, c.month_length-n.ensures)
+pub overflow_shr-words : goal.overflow_shr-words
+overflow_shr-words c = let l = length_le (2000 + c.args.y) (c.loop-m.m + 1) (omega arith) (omega (arith, c.requires.0)) (omega arith) (omega arith) in omega (arith, c.month_length-n.ensures)
 
-pub returns-then-w-n-ne0 : goal.returns-then-w-n-ne0
-returns-then-w-n-ne0 c = judge_bad c.loop-m.invariant (search rules) (search rules) (c.month_length-n.ensures ∙ year_length _ _ c.loop-m-test.true) c.if-w-n-ne0.true
+pub returns-then-words-m-ne0 : goal.returns-then-words-m-ne0
+returns-then-words-m-ne0 c = judge_bad c.loop-m.invariant (search rules) (search rules) (c.month_length-n.ensures ∙ year_length _ _ c.loop-m-test.true) c.if-words-m-ne0.true
 
 pub loop-m-preserved : goal.loop-m-preserved
-loop-m-preserved c = judge_next c.loop-m.invariant (search rules) (search rules) (c.month_length-n.ensures ∙ year_length _ _ c.loop-m-test.true) c.if-w-n-ne0.false
+loop-m-preserved c = judge_next c.loop-m.invariant (search rules) (search rules) (c.month_length-n.ensures ∙ year_length _ _ c.loop-m-test.true) c.if-words-m-ne0.false
 
 pub returns : goal.returns
 returns c = judge_end c.loop-m.invariant c.loop-m-test.false (search rules)

@@ -5,18 +5,18 @@ use native.Mathlib.Omega.{arith}
 use Rattle.days.proofs.is_open.Goals as goal
 
 pub word_of-requires : goal.word_of-requires
-word_of-requires c = (is_date_lem _ c.new.ensures c.in-Is.is).0
+word_of-requires c = (is_date_lem _ c.new.ensures c.in-Some.is).0
 
 pub overflow_sub-result : goal.overflow_sub-result
-overflow_sub-result c = let p = parts _ (is_date_lem _ c.new.ensures c.in-Is.is).0 in omega arith
+overflow_sub-result c = let p = parts _ (is_date_lem _ c.new.ensures c.in-Some.is).0 in omega arith
 
 pub overflow_shr-result : goal.overflow_shr-result
-overflow_shr-result c = let p = parts _ (is_date_lem _ c.new.ensures c.in-Is.is).0 in omega arith
+overflow_shr-result c = let p = parts _ (is_date_lem _ c.new.ensures c.in-Some.is).0 in omega arith
 
-pub returns-in-Is : goal.returns-in-Is
+pub returns-in-Some : goal.returns-in-Some
 unfolding is_open bit_on
-returns-in-Is c = rw ((is_date_lem _ c.new.ensures c.in-Is.is).0, c.word_of.ensures.0)
+returns-in-Some c = rw ((is_date_lem _ c.new.ensures c.in-Some.is).0, c.word_of.ensures.0)
 
-pub returns-in-Not : goal.returns-in-Not
+pub returns-in-None : goal.returns-in-None
 unfolding is_open
-returns-in-Not c = rw (not_date _ c.new.ensures c.in-Not.is)
+returns-in-None c = rw (not_date _ c.new.ensures c.in-None.is)

@@ -1,7 +1,7 @@
 use mathlib.Core.Path.{ap, ◌∙◌}
 use Prim.Native.Nat.{◌-◌}
-use Rattle.days.specs.Days.{as_day}
 use Rattle.days.proofs.Bits.{highest_led, positive}
+use Rattle.days.proofs.Parts.{found_day, nothing_found}
 use Rattle.days.proofs.Months.{fall_start, fall_here, fall_next, fall_end}
 use native.Mathlib.Omega.{arith}
 use Rattle.days.proofs.last_open.Goals as goal
@@ -17,8 +17,7 @@ date_of-requires c = (omega (arith, c.loop-m.invariant.small), omega arith)
 
 pub returns-then-w-ne0 : goal.returns-then-w-ne0
 returns-then-w-ne0 c =
-    c.as_day.ensures
-    ∙ ap as_day
+    found_day _ _ c.date_of.ensures
     (c.date_of.ensures
     ∙ fall_here c.loop-m.invariant c.loop-m-test.true _ c.if-w-ne0.true
     (highest_led _ (positive _ c.if-w-ne0.true)
@@ -28,5 +27,4 @@ pub loop-m-preserved : goal.loop-m-preserved
 loop-m-preserved c = fall_next c.loop-m.invariant c.loop-m-test.true c.if-w-ne0.false
 
 pub returns : goal.returns
-unfolding as_day
-returns c = ap as_day (fall_end c.loop-m.invariant c.loop-m-test.false)
+returns c = nothing_found (fall_end c.loop-m.invariant c.loop-m-test.false)

@@ -1,12 +1,9 @@
 -- The loop keeps that the search from the present word on gives the answer.
 use mathlib.Core.Path.{◌≡◌}
-use Prim.Native.Nat.{◌-◌, ◌<◌}
-use lib.ListN.{length, drop}
+use Prim.Native.Nat.{◌<◌}
+use lib.ListN.{drop}
 use Rattle.days.specs.Days.{seek_from}
 use Rattle.days.proofs.seek.Given as goal
 
 abbrev pub invariant-loop-m : goal.invariant-loop-m
 invariant-loop-m l = (l.k < 32) × (seek_from (drop l.m0 l.calendar) l.m0 l.k0 ≡ seek_from (drop l.m l.calendar) l.m l.k)
-
-abbrev pub decreases-loop-m : goal.decreases-loop-m
-decreases-loop-m l = length l.calendar - l.m

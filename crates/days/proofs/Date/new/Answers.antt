@@ -3,7 +3,7 @@ use mathlib.Core.Path.{◌≡◌, subst}
 use Prim.Native.Nat.{ℕ, ◌/◌, ◌%◌, ◌<◌, ◌≤◌}
 use borrow.Author.Tests.{le-leb, lt-leb}
 use Rattle.days.specs.Days.{checked, is_date, month_length}
-use Rattle.days.specs.declared.Checked.TheVariants.{Is, Not}
+use Rattle.std.proofs.Common.{Some, None}
 use Rattle.days.proofs.Lengths.{length_ge}
 use Rattle.days.proofs.Parts.{date_by_length}
 use native.Mathlib.Omega.{arith}
@@ -11,11 +11,11 @@ use Rattle.days.proofs.Date.new.Goals as goal
 
 -- behind the tests before, the month's length decides
 module _ (n : ℕ) (h : 20000101 ≤ n) (l : n ≤ 20391231) (hm : 1 ≤ n / 100 % 100) (lm : n / 100 % 100 ≤ 12) (hd : 1 ≤ n % 100) where
-  has-day : n % 100 ≤ month_length (n / 10000) (n / 100 % 100) → Is (record { 0 = n }) ≡ checked n
+  has-day : n % 100 ≤ month_length (n / 10000) (n / 100 % 100) → Some (record { 0 = n }) ≡ checked n
   unfolding checked
   has-day e = simp (date_by_length n h l hm lm hd, le-leb _ _ e)
 
-  lacks-day : month_length (n / 10000) (n / 100 % 100) < n % 100 → Not ≡ checked n
+  lacks-day : month_length (n / 10000) (n / 100 % 100) < n % 100 → None ≡ checked n
   unfolding checked
   lacks-day e = simp (date_by_length n h l hm lm hd, lt-leb _ _ e)
 
