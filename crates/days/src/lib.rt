@@ -1,11 +1,12 @@
-// Dates and open days (document 01, section Days). A calendar is a slice of 480 words, one a month from January 2000;
-// a number that is no date is not open, and no search finds a day from it.
+// Dates and open days (document 01, section Days). A number that is no date is not open, and no search finds a day from it.
 #![tactic(auto)]
 
-ghost use Rattle.std.specs.Prelude.{◌≡◌, true, ◌+◌, ◌*◌, ◌-◌, ◌≤◌, ◌<◌, length, drop};
+ghost use Rattle.std.specs.Prelude.{◌≡◌, true, ◌+◌, ◌*◌, ◌-◌, ◌≤◌, ◌<◌, ◌↔◌, List, ℕ, length, drop, IfSome, IsSome};
 ghost use Rattle.days.specs.Days.{is_date, leap_day, month_length, checked, word_of, date_of, bad_from, bad_calendar};
 ghost use Rattle.days.specs.Days.{is_open, lowest_from, seek_from, open_at, open_after, open_from, last_open, as_day};
 ghost use Rattle.days.specs.MemoDay.{before_memo, day_within, six_months_before};
+
+use std::marker::Model;
 
 // A date: the number yyyymmdd, so date order is number order.
 #[derive(Clone, Copy, Debug, PartialEq, Eq, PartialOrd, Ord)]
@@ -99,31 +100,92 @@ fn bad_year(y: u32, words: &[u32]) -> bool
     false
 }
 
-// Whether a calendar has a bit for a day that its month lacks: number 2.
-pub fn bad_calendar(calendar: &[u32]) -> bool
-    requires { length calendar.now ≡ 480 }
-    ensures { result ≡ bad_calendar calendar.now }
-{
-    for y in 0..40 {
-        let a = 12 * (y as usize);
-        if bad_year(y, &calendar[a..a + 12]) {
-            return true;
-        }
-    }
-    false
+// The words of a calendar.
+pub const CALENDAR_WORDS: usize = 480;
+
+// A lent calendar: 480 words, one a month from January 2000, of which bit d − 1 is on when the month's day d is open.
+#[derive(Drop)]
+pub struct Calendar<'a> {
+    months: &'a [u32],
 }
 
-// Whether a number is an open date.
-pub fn is_open(calendar: &[u32], n: u32) -> bool
-    requires { length calendar.now ≡ 480 }
-    ensures { result ≡ is_open calendar.now n }
-{
-    match Date::new(n) {
-        Some(_) => {
-            let w = calendar[word_of(n)];
-            (w >> (n % 100 - 1)) % 2 == 1
+impl<'a> Model for Calendar<'a> {
+    ghost Value = { List ℕ };
+
+    ghost view = { λ c. c.months.now };
+
+    ghost invariant = { λ c. length c.months.now ≡ 480 };
+}
+
+impl<'a> Calendar<'a> {
+    // The calendar of words, if they are 480.
+    pub fn new(words: &'a [u32]) -> Option<Calendar<'a>>
+        ensures value { IfSome result (λ c. c ≡ words.now) }
+        ensures variant { IsSome result ↔ (length words.now ≡ 480) }
+    {
+        if words.len() == CALENDAR_WORDS {
+            Some(Calendar { months: words })
+        } else {
+            None
         }
-        None => false,
+    }
+
+    // The calendar of 480 words.
+    pub fn of(words: &'a [u32]) -> Calendar<'a>
+        requires { length words.now ≡ 480 }
+        ensures { result ≡ words.now }
+    {
+        Calendar { months: words }
+    }
+
+    // Whether a bit is on for a day that its month lacks: number 2.
+    pub fn is_bad(&self) -> bool
+        ensures { result ≡ bad_calendar self.now }
+    {
+        for y in 0..40 {
+            let a = 12 * (y as usize);
+            if bad_year(y, &self.months[a..a + 12]) {
+                return true;
+            }
+        }
+        false
+    }
+
+    // Whether a number is an open date.
+    pub fn is_open(&self, n: u32) -> bool
+        ensures { result ≡ is_open self.now n }
+    {
+        match Date::new(n) {
+            Some(_) => (self.months[word_of(n)] >> (n % 100 - 1)) % 2 == 1,
+            None => false,
+        }
+    }
+
+    // The first open day after a date.
+    pub fn open_after(&self, n: u32) -> Option<Date>
+        ensures { result ≡ as_day (open_after self.now n) }
+    {
+        open_at(self.months, n, 1)
+    }
+
+    // The first open day on or after a date.
+    pub fn open_from(&self, n: u32) -> Option<Date>
+        ensures { result ≡ as_day (open_from self.now n) }
+    {
+        open_at(self.months, n, 0)
+    }
+
+    // The last open day.
+    pub fn last_open(&self) -> Option<Date>
+        ensures { result ≡ as_day (last_open self.now) }
+    {
+        for m in (0..CALENDAR_WORDS).rev() {
+            let w = self.months[m];
+            if w != 0 {
+                return Some(Date(date_of(m, 31 - u32::leading_zeros(w))));
+            }
+        }
+        None
     }
 }
 
@@ -136,13 +198,13 @@ fn lowest_from(w: u32, k: u32) -> u32
 }
 
 // The first open day at bit k0 of word m0 or later.
-fn seek(calendar: &[u32], m0: usize, k0: u32) -> Option<Date>
-    requires { (k0 < 32) × (length calendar.now ≡ 480) }
-    ensures { result ≡ as_day (seek_from (drop m0 calendar.now) m0 k0) }
+fn seek(months: &[u32], m0: usize, k0: u32) -> Option<Date>
+    requires { (k0 < 32) × (length months.now ≡ 480) }
+    ensures { result ≡ as_day (seek_from (drop m0 months.now) m0 k0) }
 {
     let mut k = k0;
-    for m in m0..calendar.len() {
-        let d = lowest_from(calendar[m], k);
+    for m in m0..months.len() {
+        let d = lowest_from(months[m], k);
         if d < 32 {
             return Some(Date(date_of(m, d)));
         }
@@ -152,42 +214,12 @@ fn seek(calendar: &[u32], m0: usize, k0: u32) -> Option<Date>
 }
 
 // The first open day from a date on, past its first skip bits.
-fn open_at(calendar: &[u32], n: u32, skip: u32) -> Option<Date>
-    requires { (length calendar.now ≡ 480) × (skip ≤ 1) }
-    ensures { result ≡ as_day (open_at calendar.now n skip) }
+fn open_at(months: &[u32], n: u32, skip: u32) -> Option<Date>
+    requires { (length months.now ≡ 480) × (skip ≤ 1) }
+    ensures { result ≡ as_day (open_at months.now n skip) }
 {
     Date::new(n)?;
-    seek(calendar, word_of(n), n % 100 - 1 + skip)
-}
-
-// The first open day after a date.
-pub fn open_after(calendar: &[u32], n: u32) -> Option<Date>
-    requires { length calendar.now ≡ 480 }
-    ensures { result ≡ as_day (open_after calendar.now n) }
-{
-    open_at(calendar, n, 1)
-}
-
-// The first open day on or after a date.
-pub fn open_from(calendar: &[u32], n: u32) -> Option<Date>
-    requires { length calendar.now ≡ 480 }
-    ensures { result ≡ as_day (open_from calendar.now n) }
-{
-    open_at(calendar, n, 0)
-}
-
-// The last open day of a calendar.
-pub fn last_open(calendar: &[u32]) -> Option<Date>
-    requires { length calendar.now ≡ 480 }
-    ensures { result ≡ as_day (last_open calendar.now) }
-{
-    for m in (0..480).rev() {
-        let w = calendar[m];
-        if w != 0 {
-            return Some(Date(date_of(m, 31 - u32::leading_zeros(w))));
-        }
-    }
-    None
+    seek(months, word_of(n), n % 100 - 1 + skip)
 }
 
 // The first day under the 2023 memo.

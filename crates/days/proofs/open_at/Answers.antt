@@ -24,7 +24,7 @@ pub seek-requires : goal.seek-requires
 seek-requires c = let p = parts _ (is_date_lem _ c.new.ensures c.in_ok-new.was).0 in (omega arith, c.requires.0)
 
 pub returns-in_err-new : goal.returns-in_err-new
-returns-in_err-new c = c.from_residual.ensures ∙ no_search c.args.calendar.now c.args.n c.args.skip (not_date _ c.new.ensures c.in_err-new.was)
+returns-in_err-new c = c.from_residual.ensures ∙ no_search c.args.months.now c.args.n c.args.skip (not_date _ c.new.ensures c.in_err-new.was)
 
 pub returns : goal.returns
 unfolding open_at
