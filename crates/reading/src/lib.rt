@@ -8,14 +8,7 @@ ghost use Rattle.records.specs.MessageRecords.{transfer_kind, close_kind, claim_
 ghost use Rattle.records.specs.MessageRecords.{transfer_of, claim_of, first_line, second_line};
 ghost use Rattle.records.specs.MessageRecords.{headed, reading, transfer_answer, close_answer, claim_answer, answer_answer};
 
-use records::{Answer, Cents, Claim, ReadAnswer, ReadClaim, ReadClose, ReadTransfer, Transfer};
-
-// A byte as a wide number.
-fn wide(x: u8) -> u64
-    ensures { result ≡ x }
-{
-    x as u64
-}
+use records::{Answer, Cents, Claim, Transfer};
 
 // The number that bytes hold, lowest first, from a place on.
 fn number_at(s: &[u8], at: usize, width: usize) -> u64
@@ -23,10 +16,8 @@ fn number_at(s: &[u8], at: usize, width: usize) -> u64
     ensures { (result ≡ number_of (part at width s.now)) × (result < 256 ^ width) }
 {
     let mut n: u64 = 0;
-    let mut i = width;
-    while 0 < i {
-        i -= 1;
-        n = n * 256 + wide(s[at + i]);
+    for i in (0..width).rev() {
+        n = n * 256 + s[at + i] as u64;
     }
     n
 }
@@ -104,49 +95,45 @@ fn claim_at(s: &[u8]) -> Claim
     }
 }
 
-// The transfer at the message's start, or a refusal; its lines are first_line and second_line of the message.
-pub fn read_transfer(message: &[u8]) -> ReadTransfer
+// The transfer at the message's start, if there is one; its lines are first_line and second_line of the message.
+pub fn read_transfer(message: &[u8]) -> Option<Transfer>
     ensures { transfer_answer result ≡ reading transfer_kind message.now }
 {
     if is_headed(message, 139, 1) {
-        ReadTransfer::Is(transfer_at(message))
+        Some(transfer_at(message))
     } else {
-        ReadTransfer::Refused
+        None
     }
 }
 
 // Whether a close stands at the message's start.
-pub fn read_close(message: &[u8]) -> ReadClose
+pub fn read_close(message: &[u8]) -> bool
     ensures { close_answer result ≡ reading close_kind message.now }
 {
-    if is_headed(message, 2, 2) {
-        ReadClose::Is
-    } else {
-        ReadClose::Refused
-    }
+    is_headed(message, 2, 2)
 }
 
-// The claim at the message's start, or a refusal.
-pub fn read_claim(message: &[u8]) -> ReadClaim
+// The claim at the message's start, if there is one.
+pub fn read_claim(message: &[u8]) -> Option<Claim>
     ensures { claim_answer result ≡ reading claim_kind message.now }
 {
     if is_headed(message, 33, 3) {
-        ReadClaim::Is(claim_at(message))
+        Some(claim_at(message))
     } else {
-        ReadClaim::Refused
+        None
     }
 }
 
-// The answer at the message's start, or a refusal.
-pub fn read_answer(message: &[u8]) -> ReadAnswer
+// The answer at the message's start, if there is one.
+pub fn read_answer(message: &[u8]) -> Option<Answer>
     ensures { answer_answer result ≡ reading answer_kind message.now }
 {
     if is_headed(message, 4, 4) {
-        ReadAnswer::Is(Answer {
+        Some(Answer {
             number: u16_at(message, 4),
         })
     } else {
-        ReadAnswer::Refused
+        None
     }
 }
 

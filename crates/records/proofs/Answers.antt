@@ -14,16 +14,11 @@ use Rattle.lists.specs.Put.{put}
 use Rattle.records.specs.declared.Transfer.{Transfer}
 use Rattle.records.specs.declared.Claim.{Claim}
 use Rattle.records.specs.declared.Answer.{Answer}
-use Rattle.records.specs.declared.ReadTransfer.{ReadTransfer}
-use Rattle.records.specs.declared.ReadTransfer.TheVariants as transfer
-use Rattle.records.specs.declared.ReadClose.{ReadClose}
-use Rattle.records.specs.declared.ReadClose.TheVariants as close
-use Rattle.records.specs.declared.ReadClaim.{ReadClaim}
-use Rattle.records.specs.declared.ReadClaim.TheVariants as claim
-use Rattle.records.specs.declared.ReadAnswer.{ReadAnswer}
-use Rattle.records.specs.declared.ReadAnswer.TheVariants as answer
-use Rattle.records.specs.declared.Wrote.{Wrote}
-use Rattle.records.specs.declared.Wrote.TheVariants.{Whole, Short}
+use Rattle.std.proofs.Common.{Option, Some, None, Result, Ok, Err}
+use Rattle.records.specs.declared.Refusal.{Refusal}
+use Rattle.records.specs.declared.Refusal.TheVariants as refusal
+use Rattle.records.specs.Refusals.{judged_number}
+use Rattle.records.proofs.Refusals.{one_number, refused_number, room_number}
 use Rattle.records.specs.MessageRecords.{Kind, transfer_kind, close_kind, claim_kind, answer_kind, size, record_bytes}
 use Rattle.records.specs.MessageRecords.{transfer_of, claim_of, answer_of}
 use Rattle.records.specs.MessageRecords.{reads, Reading, reading, transfer_answer, close_answer, claim_answer, answer_answer}
@@ -69,85 +64,85 @@ module _ (k : Kind) (s : List ℕ) where
 -- ---- the four kinds
 
 module _ (s : List ℕ) where
-  pub transfer_is : {r : ReadTransfer} {t : Transfer} → transfer_answer r ≡ reading transfer_kind s → r ≡ transfer.Is t
+  pub transfer_is : {r : Option Transfer} {t : Transfer} → transfer_answer r ≡ reading transfer_kind s → r ≡ Some t
       → Found transfer_kind 141 transfer_of s t
   unfolding transfer_answer
   transfer_is {r} {t} e q =
-      let f = found transfer_kind s (transfer_answer (transfer.Is t)) refl (sym (ap transfer_answer q) ∙ e) in
+      let f = found transfer_kind s (transfer_answer (Some t)) refl (sym (ap transfer_answer q) ∙ e) in
       record {
         whole = f.0;
         long = transfer_long s f.0;
         same = transfer_same t (transfer_of s) (f.1 ∙ sym (transfer_decoded s));
       }
 
-  pub transfer_not : {r : ReadTransfer} → transfer_answer r ≡ reading transfer_kind s → r ≡ transfer.Refused → reads transfer_kind s ≡ false
+  pub transfer_not : {r : Option Transfer} → transfer_answer r ≡ reading transfer_kind s → r ≡ None → reads transfer_kind s ≡ false
   unfolding transfer_answer
-  transfer_not {r} e q = refused transfer_kind s (transfer_answer transfer.Refused) refl (sym (ap transfer_answer q) ∙ e)
+  transfer_not {r} e q = refused transfer_kind s (transfer_answer None) refl (sym (ap transfer_answer q) ∙ e)
 
-  pub close_is : {r : ReadClose} → close_answer r ≡ reading close_kind s → r ≡ close.Is → reads close_kind s ≡ true
+  pub close_is : {r : Bool} → close_answer r ≡ reading close_kind s → r ≡ true → reads close_kind s ≡ true
   unfolding close_answer
-  close_is {r} e q = (found close_kind s (close_answer close.Is) refl (sym (ap close_answer q) ∙ e)).0
+  close_is {r} e q = (found close_kind s (close_answer true) refl (sym (ap close_answer q) ∙ e)).0
 
-  pub close_not : {r : ReadClose} → close_answer r ≡ reading close_kind s → r ≡ close.Refused → reads close_kind s ≡ false
+  pub close_not : {r : Bool} → close_answer r ≡ reading close_kind s → r ≡ false → reads close_kind s ≡ false
   unfolding close_answer
-  close_not {r} e q = refused close_kind s (close_answer close.Refused) refl (sym (ap close_answer q) ∙ e)
+  close_not {r} e q = refused close_kind s (close_answer false) refl (sym (ap close_answer q) ∙ e)
 
-  pub claim_is : {r : ReadClaim} {c : Claim} → claim_answer r ≡ reading claim_kind s → r ≡ claim.Is c → Found claim_kind 35 claim_of s c
+  pub claim_is : {r : Option Claim} {c : Claim} → claim_answer r ≡ reading claim_kind s → r ≡ Some c → Found claim_kind 35 claim_of s c
   unfolding claim_answer
   claim_is {r} {c} e q =
-      let f = found claim_kind s (claim_answer (claim.Is c)) refl (sym (ap claim_answer q) ∙ e) in
+      let f = found claim_kind s (claim_answer (Some c)) refl (sym (ap claim_answer q) ∙ e) in
       record {
         whole = f.0;
         long = claim_long s f.0;
         same = claim_same c (claim_of s) (f.1 ∙ sym (claim_decoded s));
       }
 
-  pub claim_not : {r : ReadClaim} → claim_answer r ≡ reading claim_kind s → r ≡ claim.Refused → reads claim_kind s ≡ false
+  pub claim_not : {r : Option Claim} → claim_answer r ≡ reading claim_kind s → r ≡ None → reads claim_kind s ≡ false
   unfolding claim_answer
-  claim_not {r} e q = refused claim_kind s (claim_answer claim.Refused) refl (sym (ap claim_answer q) ∙ e)
+  claim_not {r} e q = refused claim_kind s (claim_answer None) refl (sym (ap claim_answer q) ∙ e)
 
-  pub answer_is : {r : ReadAnswer} {a : Answer} → answer_answer r ≡ reading answer_kind s → r ≡ answer.Is a → Found answer_kind 6 answer_of s a
+  pub answer_is : {r : Option Answer} {a : Answer} → answer_answer r ≡ reading answer_kind s → r ≡ Some a → Found answer_kind 6 answer_of s a
   unfolding answer_answer
   answer_is {r} {a} e q =
-      let f = found answer_kind s (answer_answer (answer.Is a)) refl (sym (ap answer_answer q) ∙ e) in
+      let f = found answer_kind s (answer_answer (Some a)) refl (sym (ap answer_answer q) ∙ e) in
       record {
         whole = f.0;
         long = answer_long s f.0;
         same = answer_same a (answer_of s) (f.1 ∙ sym (answer_decoded s));
       }
 
-  pub answer_not : {r : ReadAnswer} → answer_answer r ≡ reading answer_kind s → r ≡ answer.Refused → reads answer_kind s ≡ false
+  pub answer_not : {r : Option Answer} → answer_answer r ≡ reading answer_kind s → r ≡ None → reads answer_kind s ≡ false
   unfolding answer_answer
-  answer_not {r} e q = refused answer_kind s (answer_answer answer.Refused) refl (sym (ap answer_answer q) ∙ e)
+  answer_not {r} e q = refused answer_kind s (answer_answer None) refl (sym (ap answer_answer q) ∙ e)
 
 -- ---- writers of any kind
 
 module _ (k : Kind) (vs text l : List ℕ) where
-  pub wrote_whole : {r : Wrote} {o : List ℕ} → ◌≡◌ {A = Writing} (record { number = wrote_number r; buffer = o }) (writing k vs text l)
-      → size k ≤ length l → (r ≡ Whole) × (o ≡ record_bytes k vs text ++ drop (size k) l)
-  unfolding writing wrote_number
+  pub wrote_whole : {r : Result Unit Refusal} {o : List ℕ} → ◌≡◌ {A = Writing} (record { number = wrote_number r; buffer = o }) (writing k vs text l)
+      → size k ≤ length l → (r ≡ Ok tt) × (o ≡ record_bytes k vs text ++ drop (size k) l)
+  unfolding writing judged_number
   wrote_whole {r} {o} e h = go r (e ∙ cond_true _ _ (le-leb (size k) (length l) h))
     where
-      go : (r : Wrote)
+      go : (r : Result Unit Refusal)
           → ◌≡◌ {A = Writing} (record { number = wrote_number r; buffer = o })
           (record { number = 0; buffer = record_bytes k vs text ++ drop (size k) l })
-          → (r ≡ Whole) × (o ≡ record_bytes k vs text ++ drop (size k) l)
-      go Whole e = (refl, ap (λ (w : Writing). w.buffer) e)
-      go Short e = absurd (omega (arith, ap (λ (w : Writing). w.number) e))
+          → (r ≡ Ok tt) × (o ≡ record_bytes k vs text ++ drop (size k) l)
+      go (Ok tt) e = (refl, ap (λ (w : Writing). w.buffer) e)
+      go (Err f) e = absurd (refused_number f (ap (λ (w : Writing). w.number) e))
 
-  pub wrote_short : {r : Wrote} {o : List ℕ} → ◌≡◌ {A = Writing} (record { number = wrote_number r; buffer = o }) (writing k vs text l)
-      → length l < size k → (r ≡ Short) × (o ≡ l)
-  unfolding writing wrote_number
+  pub wrote_short : {r : Result Unit Refusal} {o : List ℕ} → ◌≡◌ {A = Writing} (record { number = wrote_number r; buffer = o }) (writing k vs text l)
+      → length l < size k → (r ≡ Err refusal.Room) × (o ≡ l)
+  unfolding writing judged_number
   wrote_short {r} {o} e h = go r (e ∙ cond_false _ _ (lt-leb (size k) (length l) h))
     where
-      go : (r : Wrote) → ◌≡◌ {A = Writing} (record { number = wrote_number r; buffer = o }) (record { number = 10; buffer = l })
-          → (r ≡ Short) × (o ≡ l)
-      go Short e = (refl, ap (λ (w : Writing). w.buffer) e)
-      go Whole e = absurd (omega (arith, ap (λ (w : Writing). w.number) e))
+      go : (r : Result Unit Refusal) → ◌≡◌ {A = Writing} (record { number = wrote_number r; buffer = o }) (record { number = 10; buffer = l })
+          → (r ≡ Err refusal.Room) × (o ≡ l)
+      go (Ok _) e = absurd (omega (arith, ap (λ (w : Writing). w.number) e))
+      go (Err f) e = (ap Err (one_number (ap (λ (w : Writing). w.number) e ∙ sym room_number)), ap (λ (w : Writing). w.buffer) e)
 
 -- ---- a record written to the part of a buffer from a place on is put there
 
-pub stored_record : (k : Kind) (vs text l o : List ℕ) (at : ℕ) (r : Wrote) → length (record_bytes k vs text) ≡ size k → at + size k ≤ length l
+pub stored_record : (k : Kind) (vs text l o : List ℕ) (at : ℕ) (r : Result Unit Refusal) → length (record_bytes k vs text) ≡ size k → at + size k ≤ length l
     → ◌≡◌ {A = Writing} (record { number = wrote_number r; buffer = o }) (writing k vs text (take (length l - at) (drop at l)))
     → take at l ++ (o ++ drop (length l - at) (drop at l)) ≡ put l at (record_bytes k vs text)
 unfolding put

@@ -6,3 +6,4 @@ pub mod RoundTrips
 pub mod Behind
 pub mod Answers
 pub mod Examples
+pub mod Refusals

@@ -1,22 +1,19 @@
 -- What reading answers, by the cases of the header; the fields that stand in bytes are the decoded values.
 use mathlib.Core.Path.{◌≡◌, refl, sym, ap, ◌∙◌}
-use mathlib.Core.Bool.{true, false, ◌&&◌}
+use mathlib.Core.Bool.{Bool, true, false, ◌&&◌}
 use mathlib.Core.List.{List, []}
 use Prim.Native.Nat.{ℕ, ◌+◌, ◌≤◌, ◌<◌}
 use native.Mathlib.Omega.{arith}
 use lib.Dec.{leb, eqb}
 use lib.ListN.{length}
 use borrow.Author.Tests.{le-leb, lt-leb, eq-eqb, ne_eqb, leb-true}
+use Rattle.std.proofs.Common.{Some, None}
 use Rattle.lists.specs.Tests.{and_left, cond_true, cond_false}
 use Rattle.lists.specs.Numbers.{number_of}
 use Rattle.lists.specs.Fields.{part, part_length, decode}
 use Rattle.records.specs.declared.Transfer.{Transfer}
 use Rattle.records.specs.declared.Claim.{Claim}
 use Rattle.records.specs.declared.Answer.{Answer}
-use Rattle.records.specs.declared.ReadTransfer.TheVariants as transfer
-use Rattle.records.specs.declared.ReadClose.TheVariants as close
-use Rattle.records.specs.declared.ReadClaim.TheVariants as claim
-use Rattle.records.specs.declared.ReadAnswer.TheVariants as answer
 use Rattle.records.specs.MessageRecords.{Kind, transfer_kind, close_kind, claim_kind, answer_kind, size}
 use Rattle.records.specs.MessageRecords.{transfer_values, claim_values, answer_values, transfer_of, claim_of, answer_of, first_line, second_line}
 use Rattle.records.specs.MessageRecords.{header, headed, reads, Reading, reading, transfer_answer, close_answer, claim_answer, answer_answer}
@@ -126,35 +123,32 @@ abbrev found : List ℕ → Reading
 found vs = record { number = 0; values = vs }
 
 module _ (s : List ℕ) where
-  pub transfer_read : {t : Transfer} → headed 139 1 s ≡ true → t ≡ transfer_of s → transfer_answer (transfer.Is t) ≡ reading transfer_kind s
+  pub transfer_read : {t : Transfer} → headed 139 1 s ≡ true → t ≡ transfer_of s → transfer_answer (Some t) ≡ reading transfer_kind s
   unfolding transfer_answer reads transfer_kind
   transfer_read h e =
       ap (λ (t : Transfer). found (transfer_values t)) e ∙ ap found (transfer_decoded s) ∙ sym (reading_is transfer_kind s h)
 
-  pub transfer_refused : headed 139 1 s ≡ false → transfer_answer transfer.Refused ≡ reading transfer_kind s
+  pub transfer_refused : headed 139 1 s ≡ false → transfer_answer None ≡ reading transfer_kind s
   unfolding transfer_answer reads transfer_kind
   transfer_refused h = sym (reading_refused transfer_kind s h)
 
-  pub close_read : headed 2 2 s ≡ true → close_answer close.Is ≡ reading close_kind s
+  pub close_answered : (b : Bool) → b ≡ headed 2 2 s → close_answer b ≡ reading close_kind s
   unfolding close_answer reads close_kind decode
-  close_read h = sym (reading_is close_kind s h)
+  close_answered true e = sym (reading_is close_kind s (sym e))
+  close_answered false e = sym (reading_refused close_kind s (sym e))
 
-  pub close_refused : headed 2 2 s ≡ false → close_answer close.Refused ≡ reading close_kind s
-  unfolding close_answer reads close_kind
-  close_refused h = sym (reading_refused close_kind s h)
-
-  pub claim_read : {c : Claim} → headed 33 3 s ≡ true → c ≡ claim_of s → claim_answer (claim.Is c) ≡ reading claim_kind s
+  pub claim_read : {c : Claim} → headed 33 3 s ≡ true → c ≡ claim_of s → claim_answer (Some c) ≡ reading claim_kind s
   unfolding claim_answer reads claim_kind
   claim_read h e = ap (λ (c : Claim). found (claim_values c)) e ∙ ap found (claim_decoded s) ∙ sym (reading_is claim_kind s h)
 
-  pub claim_refused : headed 33 3 s ≡ false → claim_answer claim.Refused ≡ reading claim_kind s
+  pub claim_refused : headed 33 3 s ≡ false → claim_answer None ≡ reading claim_kind s
   unfolding claim_answer reads claim_kind
   claim_refused h = sym (reading_refused claim_kind s h)
 
-  pub answer_read : {a : Answer} → headed 4 4 s ≡ true → a ≡ answer_of s → answer_answer (answer.Is a) ≡ reading answer_kind s
+  pub answer_read : {a : Answer} → headed 4 4 s ≡ true → a ≡ answer_of s → answer_answer (Some a) ≡ reading answer_kind s
   unfolding answer_answer reads answer_kind
   answer_read h e = ap (λ (a : Answer). found (answer_values a)) e ∙ ap found (answer_decoded s) ∙ sym (reading_is answer_kind s h)
 
-  pub answer_refused : headed 4 4 s ≡ false → answer_answer answer.Refused ≡ reading answer_kind s
+  pub answer_refused : headed 4 4 s ≡ false → answer_answer None ≡ reading answer_kind s
   unfolding answer_answer reads answer_kind
   answer_refused h = sym (reading_refused answer_kind s h)

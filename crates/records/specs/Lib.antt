@@ -1,1 +1,2 @@
 pub mod MessageRecords
+pub mod Refusals

@@ -1,21 +1,13 @@
 -- The four kinds of message record: a two-byte length of what follows, a two-byte kind, then the body.
 -- The body is numbers, each in a width of its own, lowest byte first; a transfer has two lines of free text behind them.
-use Rattle.std.specs.Prelude.{Bool, cond, ◌&&◌, List, [], ◌∷◌, ◌++◌, ℕ, ◌+◌, leb, eqb, length, drop}
+use Rattle.std.specs.Prelude.{Bool, true, false, Option, Some, None, Result, cond, ◌&&◌, List, [], ◌∷◌, ◌++◌, ℕ, ◌+◌, leb, eqb, length, drop}
 use Rattle.lists.specs.Numbers.{number_of}
 use Rattle.lists.specs.Fields.{part, encode, decode}
 use Rattle.records.specs.declared.Transfer.{Transfer}
 use Rattle.records.specs.declared.Claim.{Claim}
 use Rattle.records.specs.declared.Answer.{Answer}
-use Rattle.records.specs.declared.ReadTransfer.{ReadTransfer}
-use Rattle.records.specs.declared.ReadTransfer.TheVariants as transfer
-use Rattle.records.specs.declared.ReadClose.{ReadClose}
-use Rattle.records.specs.declared.ReadClose.TheVariants as close
-use Rattle.records.specs.declared.ReadClaim.{ReadClaim}
-use Rattle.records.specs.declared.ReadClaim.TheVariants as claim
-use Rattle.records.specs.declared.ReadAnswer.{ReadAnswer}
-use Rattle.records.specs.declared.ReadAnswer.TheVariants as answer
-use Rattle.records.specs.declared.Wrote.{Wrote}
-use Rattle.records.specs.declared.Wrote.TheVariants.{Whole, Short}
+use Rattle.records.specs.Refusals.{judged_number}
+use Rattle.records.specs.declared.Refusal.{Refusal}
 
 -- ---- the kinds
 
@@ -125,21 +117,21 @@ unfoldable pub reading : Kind → List ℕ → Reading
 reading k s = cond (reads k s) (record { number = 0; values = decode k.widths 4 s }) (record { number = 5; values = [] })
 
 -- The number and the values of each answer of a reader.
-unfoldable pub transfer_answer : ReadTransfer → Reading
-transfer_answer (transfer.Is t) = record { number = 0; values = transfer_values t }
-transfer_answer transfer.Refused = record { number = 5; values = [] }
+unfoldable pub transfer_answer : Option Transfer → Reading
+transfer_answer (Some t) = record { number = 0; values = transfer_values t }
+transfer_answer None = record { number = 5; values = [] }
 
-unfoldable pub close_answer : ReadClose → Reading
-close_answer close.Is = record { number = 0; values = [] }
-close_answer close.Refused = record { number = 5; values = [] }
+unfoldable pub close_answer : Bool → Reading
+close_answer true = record { number = 0; values = [] }
+close_answer false = record { number = 5; values = [] }
 
-unfoldable pub claim_answer : ReadClaim → Reading
-claim_answer (claim.Is c) = record { number = 0; values = claim_values c }
-claim_answer claim.Refused = record { number = 5; values = [] }
+unfoldable pub claim_answer : Option Claim → Reading
+claim_answer (Some c) = record { number = 0; values = claim_values c }
+claim_answer None = record { number = 5; values = [] }
 
-unfoldable pub answer_answer : ReadAnswer → Reading
-answer_answer (answer.Is a) = record { number = 0; values = answer_values a }
-answer_answer answer.Refused = record { number = 5; values = [] }
+unfoldable pub answer_answer : Option Answer → Reading
+answer_answer (Some a) = record { number = 0; values = answer_values a }
+answer_answer None = record { number = 5; values = [] }
 
 -- ---- writing
 
@@ -157,6 +149,5 @@ writing k values text buffer =
     (record { number = 10; buffer = buffer })
 
 -- The number of each answer of a writer.
-unfoldable pub wrote_number : Wrote → ℕ
-wrote_number Whole = 0
-wrote_number Short = 10
+abbrev pub wrote_number : Result Unit Refusal → ℕ
+wrote_number r = judged_number r

@@ -1,4 +1,4 @@
--- What the two loops keep: each invariant says what is left of the loop's equation, so a turn is one step of the definition.
+-- What the loop keeps: the invariant says what is left of the loop's equation, so a turn is one step of the definition.
 use mathlib.Core.Path.{◌≡◌, refl, sym, ap, ◌∙◌}
 use mathlib.Core.List.{List, ◌++◌, append_assoc}
 use Prim.Native.Nat.{ℕ, suc, ◌+◌, ◌-◌, ◌/◌, ◌%◌, ◌≤◌, ◌<◌}
@@ -48,34 +48,11 @@ put_end {buffer₀} {buffer} {at} {w} {v} {n} {i} l k =
     sym (take-append-drop (at + i) buffer)
     ∙ ap (λ (x : List ℕ). take (at + i) buffer ++ x) (k.tail ∙ ap (λ (j : ℕ). drop (at + j) buffer₀) e) ∙ sym (rw z at k.whole)
 
--- ---- bytes stored in order
+-- ---- bytes stored at once
 
-pub record Copying (buffer₀ : List ℕ) (at : ℕ) (bytes buffer : List ℕ) (i : ℕ) : Type 0 where
-  pub small : i ≤ length bytes
-  pub sized : length buffer ≡ length buffer₀
-  pub stored : buffer ≡ put buffer₀ at (take i bytes)
-
-pub copy_start : (buffer : List ℕ) (at : ℕ) (bytes : List ℕ) → Copying buffer at bytes buffer 0
-copy_start buffer at bytes = record { small = omega arith; sized = refl; stored = sym (put_none buffer at) }
-
-pub copy_step : {buffer₀ bytes buffer : List ℕ} {at i : ℕ} → at + length bytes ≤ length buffer₀ → i < length bytes
-    → Copying buffer₀ at bytes buffer i → Copying buffer₀ at bytes (set buffer (at + i) (get_or bytes i 0)) (i + 1)
+pub copied : (buffer : List ℕ) (at : ℕ) (bytes : List ℕ) {part : List ℕ} → part ≡ bytes
+    → take at buffer ++ (part ++ drop (at + length bytes - at) (drop at buffer)) ≡ put buffer at bytes
 unfolding put
-copy_step {buffer₀} {bytes} {buffer} {at} {i} h l k =
-    let a : length (take i bytes) ≡ i = length-take-le i bytes (omega arith) in
-    let b : length (take (suc i) bytes) ≡ suc i = length-take-le (suc i) bytes (omega arith) in
-    record {
-      small = omega arith;
-      sized = length-set buffer (at + i) (get_or bytes i 0) ∙ k.sized;
-      stored = ap (λ (x : List ℕ). set x (at + i) (get_or bytes i 0)) k.stored
-          ∙ rw (add-one, a, b)
-          (ap (λ (x : List ℕ). set x (at + i) (get_or bytes i 0)) (sym (append_assoc (take at buffer₀) (take i bytes) (drop (at + i) buffer₀)))
-          ∙ paste-suc buffer₀ at bytes i 0 (omega arith) l
-          ∙ append_assoc (take at buffer₀) (take (suc i) bytes) (drop (at + suc i) buffer₀));
-    }
-
-pub copy_end : {buffer₀ bytes buffer : List ℕ} {at i : ℕ} → length bytes ≤ i → Copying buffer₀ at bytes buffer i
-    → buffer ≡ put buffer₀ at bytes
-copy_end {buffer₀} {bytes} {buffer} {at} {i} l k =
-    let e : i ≡ length bytes = omega arith in
-    k.stored ∙ ap (put buffer₀ at) (ap (λ (j : ℕ). take j bytes) e ∙ take-length bytes)
+copied buffer at bytes e =
+    let n : at + length bytes - at ≡ length bytes = omega arith in
+    rw (e, n, drop-drop) refl

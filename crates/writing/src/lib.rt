@@ -8,7 +8,7 @@ ghost use Rattle.records.specs.MessageRecords.{transfer_kind, close_kind, claim_
 ghost use Rattle.records.specs.MessageRecords.{transfer_values, claim_values, answer_values};
 ghost use Rattle.records.specs.MessageRecords.{writing, wrote_number};
 
-use records::{Answer, Claim, Transfer, Wrote};
+use records::{Answer, Claim, Refusal, Transfer};
 
 // Stores a number's bytes, lowest first, from a place of the buffer on.
 fn put_number(buffer: &mut [u8], at: usize, width: usize, number: u64)
@@ -16,11 +16,9 @@ fn put_number(buffer: &mut [u8], at: usize, width: usize, number: u64)
     ensures { buffer.new ≡ put buffer.old at (bytes_of width number) }
 {
     let mut n = number;
-    let mut i: usize = 0;
-    while i < width {
+    for i in 0..width {
         buffer[at + i] = (n % 256) as u8;
-        n = n / 256;
-        i += 1;
+        n /= 256;
     }
 }
 
@@ -29,20 +27,16 @@ fn put_bytes(buffer: &mut [u8], at: usize, bytes: &[u8])
     requires { at + length bytes.now ≤ length buffer.old }
     ensures { buffer.new ≡ put buffer.old at bytes.now }
 {
-    let mut i: usize = 0;
-    while i < bytes.len() {
-        buffer[at + i] = bytes[i];
-        i += 1;
-    }
+    buffer[at..at + bytes.len()].copy_from_slice(bytes);
 }
 
 // A transfer with its two lines of free text, written to the buffer's start.
-pub fn write_transfer(buffer: &mut [u8], t: Transfer, first: &[u8; 64], second: &[u8; 64]) -> Wrote
+pub fn write_transfer(buffer: &mut [u8], t: Transfer, first: &[u8; 64], second: &[u8; 64]) -> Result<(), Refusal>
     ensures { record { number = wrote_number result; buffer = buffer.new }
         ≡ writing transfer_kind (transfer_values t) (first.now ++ second.now) buffer.old }
 {
     if buffer.len() < 141 {
-        return Wrote::Short;
+        return Err(Refusal::Room);
     }
     let head: [u8; 9] = [
         139, 0, 1, 0, t.sender, t.receiver, t.security, t.class, t.code,
@@ -51,27 +45,27 @@ pub fn write_transfer(buffer: &mut [u8], t: Transfer, first: &[u8; 64], second: 
     put_number(&mut *buffer, 9, 4, t.par as u64);
     put_bytes(&mut *buffer, 13, first);
     put_bytes(&mut *buffer, 77, second);
-    Wrote::Whole
+    Ok(())
 }
 
 // A close, written to the buffer's start.
-pub fn write_close(buffer: &mut [u8]) -> Wrote
+pub fn write_close(buffer: &mut [u8]) -> Result<(), Refusal>
     ensures { record { number = wrote_number result; buffer = buffer.new } ≡ writing close_kind [] [] buffer.old }
 {
     if buffer.len() < 4 {
-        return Wrote::Short;
+        return Err(Refusal::Room);
     }
     let head: [u8; 4] = [2, 0, 2, 0];
     put_bytes(&mut *buffer, 0, &head);
-    Wrote::Whole
+    Ok(())
 }
 
 // A claim, written to the buffer's start.
-pub fn write_claim(buffer: &mut [u8], c: Claim) -> Wrote
+pub fn write_claim(buffer: &mut [u8], c: Claim) -> Result<(), Refusal>
     ensures { record { number = wrote_number result; buffer = buffer.new } ≡ writing claim_kind (claim_values c) [] buffer.old }
 {
     if buffer.len() < 35 {
-        return Wrote::Short;
+        return Err(Refusal::Room);
     }
     let head: [u8; 10] = [
         33,
@@ -91,18 +85,18 @@ pub fn write_claim(buffer: &mut [u8], c: Claim) -> Wrote
     put_number(&mut *buffer, 22, 8, c.principal.0);
     put_number(&mut *buffer, 30, 4, c.release as u64);
     put_number(&mut *buffer, 34, 1, c.slot as u64);
-    Wrote::Whole
+    Ok(())
 }
 
 // An answer, written to the buffer's start.
-pub fn write_answer(buffer: &mut [u8], a: Answer) -> Wrote
+pub fn write_answer(buffer: &mut [u8], a: Answer) -> Result<(), Refusal>
     ensures { record { number = wrote_number result; buffer = buffer.new } ≡ writing answer_kind (answer_values a) [] buffer.old }
 {
     if buffer.len() < 6 {
-        return Wrote::Short;
+        return Err(Refusal::Room);
     }
     let head: [u8; 4] = [4, 0, 4, 0];
     put_bytes(&mut *buffer, 0, &head);
     put_number(&mut *buffer, 4, 2, a.number as u64);
-    Wrote::Whole
+    Ok(())
 }

@@ -3,13 +3,14 @@ use mathlib.Core.Path.{refl}
 use mathlib.Core.List.{[]}
 use native.Mathlib.Omega.{arith}
 use Rattle.lists.specs.Numbers.{bytes_of}
-use Rattle.records.specs.MessageRecords.{claim_kind, size, wrote_number, claim_values}
+use Rattle.records.specs.MessageRecords.{claim_kind, size, claim_values}
+use Rattle.records.specs.Refusals.{judged_number, refusal_number}
 use Rattle.records.proofs.Writings.{stored_first, stored_next, written, not_written, claim_parts}
 use borrow.Author.Rules.{rules}
 use Rattle.writing.proofs.write_claim.Goals as goal
 
 pub returns-then-buffer-lt35 : goal.returns-then-buffer-lt35
-unfolding claim_kind size wrote_number
+unfolding claim_kind size judged_number refusal_number
 returns-then-buffer-lt35 c = not_written claim_kind _ _ (search rules)
 
 pub put_number-requires-5 : goal.put_number-requires-5
@@ -22,7 +23,7 @@ put_number-requires-5 c =
     omega (arith, release.put_number-4.auto, principal.put_number-3.auto, interest.put_number-2.auto, transfer.put_number.auto, head.put_bytes.auto)
 
 pub returns : goal.returns
-unfolding claim_kind size wrote_number bytes_of
+unfolding claim_kind size judged_number refusal_number bytes_of
 returns c =
     let slot = c in
     let release = slot in

@@ -4,17 +4,18 @@ use mathlib.Core.List.{◌++◌, append_assoc}
 use native.Mathlib.Omega.{arith}
 use lib.ListN.{length, length-append}
 use Rattle.lists.specs.Numbers.{bytes_of}
-use Rattle.records.specs.MessageRecords.{transfer_kind, size, wrote_number, transfer_values}
+use Rattle.records.specs.MessageRecords.{transfer_kind, size, transfer_values}
+use Rattle.records.specs.Refusals.{judged_number, refusal_number}
 use Rattle.records.proofs.Writings.{stored_first, stored_next, written, not_written, transfer_parts}
 use borrow.Author.Rules.{rules}
 use Rattle.writing.proofs.write_transfer.Goals as goal
 
 pub returns-then-buffer-lt141 : goal.returns-then-buffer-lt141
-unfolding transfer_kind size wrote_number
+unfolding transfer_kind size judged_number refusal_number
 returns-then-buffer-lt141 c = not_written transfer_kind _ _ (search rules)
 
 pub returns : goal.returns
-unfolding wrote_number transfer_kind size bytes_of
+unfolding judged_number transfer_kind size bytes_of
 returns c =
     let second = c in
     let first = second in
