@@ -325,7 +325,7 @@ holds c =
 -- P, the amount rule alone: par 1: 1 cent; with interest factor 4,999,999: 0 cents, outcome 1
 april : ℕ → Row
 april factor =
-    record { index = 0; record_date = 20230401; beneficiary_date = 20230401; payment_date = 20230415; interest_factor = factor; principal_factor = 0; final = 0; mask = 0 }
+    record { index = 0; record_date = 20230401; beneficiary_date = 20230401; payment_date = 20230415; interest_factor = factor; principal_factor = 0; redeems = 0; mask = 0 }
 
 -- the cents of interest on par 1, and the outcome of a fail
 on_one : ℕ → ℕ → ℕ → Bool

@@ -39,29 +39,29 @@ module _ (payer : ℕ) (row : Row) (interest principal : ℕ) where
       go (suc i) p k = rw (ne_eqb (suc i) 0 (omega arith))
 
   -- a lending or repo claim on a final row
-  pub tracked_final : (claim_type : ℕ) → is_tracked claim_type ≡ true → 0 < interest + principal → row.final ≡ 1
+  pub tracked_final : (claim_type : ℕ) → is_tracked claim_type ≡ true → 0 < interest + principal → row.redeems ≡ 1
       → outcome_of claim_type payer row interest principal ≡ 2
   unfolding outcome_of
-  tracked_final claim_type t h f = rw (some h, t, eq-eqb row.final 1 f)
+  tracked_final claim_type t h f = rw (some h, t, eq-eqb row.redeems 1 f)
 
   -- a fail claim, and a lending or repo claim on a row that is not final
   pub fail_masked : 0 < interest + principal → bit_on row.mask payer ≡ true → outcome_of 1 payer row interest principal ≡ 3
   unfolding outcome_of is_tracked
   fail_masked h m = rw (some h, m)
 
-  pub tracked_masked : (claim_type : ℕ) → is_tracked claim_type ≡ true → 0 < interest + principal → row.final ≢ 1 → bit_on row.mask payer ≡ true
+  pub tracked_masked : (claim_type : ℕ) → is_tracked claim_type ≡ true → 0 < interest + principal → row.redeems ≢ 1 → bit_on row.mask payer ≡ true
       → outcome_of claim_type payer row interest principal ≡ 3
   unfolding outcome_of
-  tracked_masked claim_type t h f m = rw (some h, t, ne_eqb row.final 1 f, m)
+  tracked_masked claim_type t h f m = rw (some h, t, ne_eqb row.redeems 1 f, m)
 
   pub fail_settles : 0 < interest + principal → bit_on row.mask payer ≡ false → outcome_of 1 payer row interest principal ≡ 0
   unfolding outcome_of is_tracked
   fail_settles h m = rw (some h, m)
 
-  pub tracked_settles : (claim_type : ℕ) → is_tracked claim_type ≡ true → 0 < interest + principal → row.final ≢ 1 → bit_on row.mask payer ≡ false
+  pub tracked_settles : (claim_type : ℕ) → is_tracked claim_type ≡ true → 0 < interest + principal → row.redeems ≢ 1 → bit_on row.mask payer ≡ false
       → outcome_of claim_type payer row interest principal ≡ 0
   unfolding outcome_of
-  tracked_settles claim_type t h f m = rw (some h, t, ne_eqb row.final 1 f, m)
+  tracked_settles claim_type t h f m = rw (some h, t, ne_eqb row.redeems 1 f, m)
 
 -- ---- lending and repo
 

@@ -53,7 +53,7 @@ fit_outcome : (claim_type payer : ℕ) (row : Row) (i j : ℕ) → outcome_of cl
 unfolding outcome_of
 fit_outcome claim_type payer row i j =
     fit_cond 256 (eqb i 0 && eqb j 0) 1 _ (omega arith)
-    (fit_cond 256 (is_tracked claim_type && eqb row.final 1) 2 _ (omega arith) (fit_cond 256 (bit_on row.mask payer) 3 0 (omega arith) (omega arith)))
+    (fit_cond 256 (is_tracked claim_type && eqb row.redeems 1) 2 _ (omega arith) (fit_cond 256 (bit_on row.mask payer) 3 0 (omega arith) (omega arith)))
 
 fit_slot : (type claim_type day : ℕ) (row : Row) (o : ℕ) → slot_of type claim_type day row o < 256
 unfolding slot_of

@@ -51,7 +51,7 @@ is_tracked claim_type = eqb claim_type lending_type || eqb claim_type repo_type
 unfoldable pub outcome_of : ℕ → ℕ → Row → ℕ → ℕ → ℕ
 outcome_of claim_type payer row interest principal =
     cond (eqb interest 0 && eqb principal 0) 1
-    (cond (is_tracked claim_type && eqb row.final 1) 2
+    (cond (is_tracked claim_type && eqb row.redeems 1) 2
     (cond (bit_on row.mask payer) 3 0))
 
 -- ---- release

@@ -7,6 +7,7 @@ use Rattle.records.specs.declared.Claim.{Claim}
 use Rattle.records.specs.declared.Transfer.{Transfer}
 use Rattle.records.specs.MessageRecords.{first_line, second_line}
 use Rattle.securities.specs.Securities.{security_of, type_of, frequency_of, Row, filled_rows}
+unfoldable pub use Rattle.securities.specs.Lent.{is_mbs, maximum_for, maximum_of}
 use Rattle.tags.specs.declared.Tag.{Tag}
 use Rattle.tags.specs.ContractDateTag.{tag_of, on_day, tagged, contract_date}
 use Rattle.claims.specs.Amounts.{fail_type, interim_type, Parties, claim_on}
@@ -24,20 +25,6 @@ contract_tag day m = on_day day (message_tag m)
 -- The published maximum numbers of Beneficiary Dates: MBS, then monthly, quarterly, semiannual, annual.
 unfoldable pub maximum_numbers : List ℕ
 maximum_numbers = 7 ∷ 6 ∷ 3 ∷ 2 ∷ 1 ∷ []
-
--- Types 3 and 4 are MBS.
-unfoldable pub is_mbs : ℕ → Bool
-is_mbs type = leb 3 type
-
--- Of such numbers the one for a type and a frequency.
-unfoldable pub maximum_for : List ℕ → ℕ → ℕ → ℕ
-maximum_for numbers type frequency = cond (is_mbs type) (get_or numbers 0 0) (get_or numbers frequency 0)
-
--- The maximum number of a security by the date limits that the transfer is lent.
-unfoldable pub maximum_of : List ℕ → List ℕ → ℕ → ℕ
-maximum_of tables limits s =
-    let words = security_of tables s in
-    maximum_for limits (type_of words) (frequency_of words)
 
 -- Document 01's eligible rows, before the cut: of the rows with Beneficiary Date on or before the day, the most recent up to a maximum
 -- number; of these, each with a Beneficiary Date after the Contract Date, in table order.

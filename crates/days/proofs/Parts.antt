@@ -9,6 +9,7 @@ use Rattle.lists.specs.Tests.{and_left, and_right}
 use Rattle.days.specs.Days.{as_day, first_date, last_date, year_of, month_of, day_of, is_date, month_length, checked, word_of, date_of, length_of}
 use Rattle.days.specs.declared.Date.{Date}
 use Rattle.std.proofs.Common.{Option, Some, None}
+use Rattle.std.specs.Option.{is_some}
 use Rattle.days.proofs.Lengths.{length_le}
 
 pub record Parts (n : ℕ) : Type 0 where
@@ -109,6 +110,17 @@ is_date_lem n e f = subst (λ (x : Option Date). Says x n) (sym e ∙ f) (says n
 
 pub not_date : (n : ℕ) {r : Option Date} → r ≡ checked n → r ≡ None → is_date n ≡ false
 not_date n e f = subst (λ (x : Option Date). Says x n) (sym e ∙ f) (says n)
+
+pub some_date : (n : ℕ) → is_some (checked n) ≡ is_date n
+unfolding checked
+some_date n = go (is_date n)
+  where
+    day : Date
+    day = record { 0 = n }
+
+    go : (b : Bool) → is_some (cond b (Some day) None) ≡ b
+    go true = refl
+    go false = refl
 
 -- ---- what a search answers
 

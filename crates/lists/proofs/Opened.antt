@@ -11,5 +11,5 @@ use Rattle.lists.specs.Select.{select, last_of, keep_first}
 use Rattle.lists.specs.Tabulate.{tabulate, each, each_of}
 
 unfoldable pub opened_lists : ℕ
-unfolding below all bytes_of number_of total encode decode first_of put sum select last_of keep_first tabulate each each_of
+unfolding below bytes_of number_of total encode decode first_of put sum select last_of keep_first tabulate each each_of
 opened_lists = 0

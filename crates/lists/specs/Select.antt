@@ -41,7 +41,7 @@ module _ {A : Type 0} where
   -- ---- selecting
 
   pub all_select : (q p : A → Bool) (xs : List A) → all q xs ≡ true → all q (select p xs) ≡ true
-  unfolding all select
+  unfolding select
   all_select q p [] t = refl
   all_select q p (x ∷ xs) t = go (p x) (all_select q p xs (and_right (q x) (all q xs) t))
     where
@@ -51,13 +51,13 @@ module _ {A : Type 0} where
 
   -- where the elements pass a test, only what is said of such elements matters
   pub select_agree : (f g q : A → Bool) (xs : List A) → all q xs ≡ true → ((x : A) → q x ≡ true → f x ≡ g x) → select f xs ≡ select g xs
-  unfolding all select
+  unfolding select
   select_agree f g q [] t h = refl
   select_agree f g q (x ∷ xs) t h =
       rw (h x (and_left (q x) (all q xs) t), select_agree f g q xs (and_right (q x) (all q xs) t) h)
 
   pub select_none : (f q : A → Bool) (xs : List A) → all q xs ≡ true → ((x : A) → q x ≡ true → f x ≡ false) → select f xs ≡ []
-  unfolding all select
+  unfolding select
   select_none f q [] t h = refl
   select_none f q (x ∷ xs) t h =
       rw (h x (and_left (q x) (all q xs) t)) (select_none f q xs (and_right (q x) (all q xs) t) h)
@@ -115,7 +115,6 @@ module _ {A : Type 0} where
           rw a
 
   pub all_drop : (q : A → Bool) (k : ℕ) (xs : List A) → all q xs ≡ true → all q (drop k xs) ≡ true
-  unfolding all
   all_drop q zero xs t = t
   all_drop q (suc k) [] t = refl
   all_drop q (suc k) (x ∷ xs) t = all_drop q k xs (and_right (q x) (all q xs) t)
@@ -176,7 +175,7 @@ module _ {A : Type 0} where
   -- ---- the first of those that pass a test
 
   pub all_keep_first : (q p : A → Bool) (xs : List A) → all q xs ≡ true → all q (keep_first p xs) ≡ true
-  unfolding all keep_first
+  unfolding keep_first
   all_keep_first q p [] t = refl
   all_keep_first q p (x ∷ xs) t =
       let rest = and_right (q x) (all q xs) t in

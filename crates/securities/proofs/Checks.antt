@@ -11,9 +11,9 @@ use lib.ListN.{length, get_or, take, drop, length-drop, length-take}
 use lib.Seq.{take_all, drop-drop, get_or-take, get_or-drop}
 use borrow.Author.Tests.{le-leb, lt-ltb, ne_eqb}
 use Rattle.lists.specs.Tests.{below, cond_true, cond_false}
-use Rattle.lists.specs.All.{all, all_end, all_stop, all_go}
+use Rattle.lists.specs.All.{all}
 use Rattle.days.specs.Days.{is_date, last_open}
-use Rattle.securities.specs.Securities.{security_of, type_of, frequency_of, Row, row_of, rows_from, rows_of, is_empty, good_row, good_rows, good_security, good_tables}
+use Rattle.securities.specs.Securities.{security_of, type_of, frequency_of, Row, row_of, row_at, rows_from, rows_of, is_empty, good_row, good_rows, good_security, good_tables}
 
 -- ---- a test that fails
 
@@ -32,29 +32,10 @@ and-true : (a : Bool) → a && true ≡ a
 and-true true = refl
 and-true false = refl
 
--- ---- a test of every word, as a loop goes
-
-pub record Tested (p : ℕ → Bool) (words : List ℕ) (i : ℕ) : Type 0 where
-  pub small : i ≤ length words
-  pub rest : all p words ≡ all p (drop i words)
-
-module _ (p : ℕ → Bool) where
-  pub tested_start : (words : List ℕ) → Tested p words 0
-  tested_start words = record { small = omega arith; rest = refl }
-
-  pub tested_step : {words : List ℕ} {i : ℕ} → i < length words → p (get_or words i 0) ≡ true → Tested p words i → Tested p words (i + 1)
-  tested_step {words} {i} h e k = record { small = omega arith; rest = k.rest ∙ all_go p words i 0 h e }
-
-  pub tested_stop : {words : List ℕ} {i : ℕ} → i < length words → p (get_or words i 0) ≡ false → Tested p words i → false ≡ all p words
-  tested_stop {words} {i} h e k = sym (k.rest ∙ all_stop p words i 0 h e)
-
-  pub tested_end : {words : List ℕ} {i : ℕ} → length words ≤ i → Tested p words i → true ≡ all p words
-  tested_end {words} {i} h k = sym (k.rest ∙ all_end p words i h)
-
 -- ---- a row's last rule, where it keeps the others
 
 pub last_rule : (last : ℕ) (row : Row) → is_date row.record_date ≡ true → is_date row.beneficiary_date ≡ true → is_date row.payment_date ≡ true
-    → row.interest_factor ≤ 2000000000 → row.principal_factor ≤ 2000000000 → row.final ≤ 1 → row.mask ≤ 65535
+    → row.interest_factor ≤ 2000000000 → row.principal_factor ≤ 2000000000 → row.redeems ≤ 1 → row.mask ≤ 65535
     → row.record_date ≤ row.payment_date → row.beneficiary_date ≤ row.payment_date
     → leb row.payment_date last ≡ good_row last row
 unfolding good_row
@@ -65,7 +46,7 @@ last_rule last row a b c d e f g h k =
       c,
       le-leb row.interest_factor 2000000000 d,
       le-leb row.principal_factor 2000000000 e,
-      le-leb row.final 1 f,
+      le-leb row.redeems 1 f,
       le-leb row.mask 65535 g,
       le-leb row.record_date row.payment_date h,
       le-leb row.beneficiary_date row.payment_date k,
@@ -75,7 +56,7 @@ last_rule last row a b c d e f g h k =
 
 -- seven words are an empty row when they are zeros
 row_zeros : (i : ℕ) (words : List ℕ) → 7 ≤ length words → is_empty (row_of i words) ≡ all (λ w. eqb w 0) (take 7 words)
-unfolding is_empty row_of all
+unfolding is_empty row_of
 row_zeros i [] h = absurd (omega arith)
 row_zeros i (a ∷ []) h = absurd (omega arith)
 row_zeros i (a ∷ b ∷ []) h = absurd (omega arith)
@@ -86,14 +67,13 @@ row_zeros i (a ∷ b ∷ c ∷ d ∷ e ∷ f ∷ []) h = absurd (omega arith)
 row_zeros i (a ∷ b ∷ c ∷ d ∷ e ∷ f ∷ g ∷ words) h = simp (and_assoc, and-true)
 
 all_parts : (k : ℕ) (words : List ℕ) → all (λ w. eqb w 0) words ≡ all (λ w. eqb w 0) (take k words) && all (λ w. eqb w 0) (drop k words)
-unfolding all
 all_parts zero words = refl
 all_parts (suc k) [] = refl
 all_parts (suc k) (w ∷ words) = rw (all_parts k words, ← and_assoc (eqb w 0) (all (λ w. eqb w 0) (take k words)) (all (λ w. eqb w 0) (drop k words)))
 
 -- 7 * n words are n empty rows when they are zeros
 rows_zeros : (n i : ℕ) (words : List ℕ) → length words ≡ 7 * n → all is_empty (rows_from n i words) ≡ all (λ w. eqb w 0) words
-unfolding rows_from all
+unfolding rows_from
 rows_zeros zero i [] h = refl
 rows_zeros zero i (w ∷ words) h = absurd (omega arith)
 rows_zeros (suc n) i words h =
@@ -101,11 +81,19 @@ rows_zeros (suc n) i words h =
     ∙ sym (all_parts 7 words)
 
 -- a row is judged by its seven words alone
-good_part : (last i : ℕ) (words : List ℕ) → good_row last (row_of i words) ≡ good_row last (row_of 0 (take 7 words))
+good_part : (last i : ℕ) (words : List ℕ) → good_row last (row_of i words) ≡ good_row last (row_of i (take 7 words))
 unfolding good_row row_of
 good_part last i words =
     let e : (k : ℕ) → k < 7 → get_or (take 7 words) k 0 ≡ get_or words k 0 = λ k h. get_or-take 7 words k 0 h in
     rw (e 0 (omega arith), e 1 (omega arith), e 2 (omega arith), e 3 (omega arith), e 4 (omega arith), e 5 (omega arith), e 6 (omega arith))
+
+-- ---- the row in its place in the tables
+
+pub row_place : (tables : List ℕ) (s i : ℕ) {at : ℕ} → at ≡ 114 * s + 2 + 7 * i → row_of i (take (at + 7 - at) (drop at tables)) ≡ row_at tables s i
+unfolding row_at
+row_place tables s i {at} e =
+    let n : at + 7 - at ≡ 7 = omega arith in
+    rw (n, e) refl
 
 -- ---- the first two words of a security
 
@@ -167,30 +155,30 @@ module _ {last a b i : ℕ} {rows : List ℕ} (n : length rows ≡ 112) (h : i <
       ∙ rows_zeros (16 - (i + 1)) (i + 1) (drop (7 * (i + 1)) rows) (simp length-drop (omega arith))
       ∙ ap (λ (j : ℕ). all (λ w. eqb w 0) (drop j rows)) m ∙ ap (all (λ w. eqb w 0)) (sym (rest_words rows (7 * i + 7))))
 
-  -- what decides at a filled row
-  filled : all (λ w. eqb w 0) (row_part rows i) ≡ false
-      → good_rows last 0 0 (rows_from 16 0 rows)
-      ≡ good_row last (row_of 0 (row_part rows i)) && ltb a (get_or (row_part rows i) 0 0) && ltb b (get_or (row_part rows i) 1 0)
-      && good_rows last (get_or (row_part rows i) 0 0) (get_or (row_part rows i) 1 0) (rows_from (16 - (i + 1)) (i + 1) (drop (7 * (i + 1)) rows))
-  filled e =
-      k.rest ∙ turn last a b i rows h ∙ cond_false _ _ (part_empty ∙ e)
-      ∙ rw (good_part last i (drop (7 * i) rows), row_words_lem rows i, get_or-take 7 (drop (7 * i) rows) 0 0 (omega arith), get_or-take 7 (drop (7 * i) rows) 1 0 (omega arith))
+  -- what decides at a filled row, which the code holds
+  module _ {row : Row} (is : row ≡ row_of i (row_part rows i)) (e : all (λ w. eqb w 0) (row_part rows i) ≡ false) where
+    filled : good_rows last 0 0 (rows_from 16 0 rows)
+        ≡ good_row last row && ltb a row.record_date && ltb b row.beneficiary_date
+        && good_rows last row.record_date row.beneficiary_date (rows_from (16 - (i + 1)) (i + 1) (drop (7 * (i + 1)) rows))
+    unfolding row_of
+    filled =
+        k.rest ∙ turn last a b i rows h ∙ cond_false _ _ (part_empty ∙ e)
+        ∙ rw (is, good_part last i (drop (7 * i) rows), row_words_lem rows i, get_or-take 7 (drop (7 * i) rows) 0 0 (omega arith), get_or-take 7 (drop (7 * i) rows) 1 0 (omega arith))
+        refl
 
-  -- a filled row that breaks a rule
-  pub rows_broken : all (λ w. eqb w 0) (row_part rows i) ≡ false
-      → (good_row last (row_of 0 (row_part rows i)) && ltb a (get_or (row_part rows i) 0 0) && ltb b (get_or (row_part rows i) 1 0)) ≡ false
-      → false ≡ good_rows last 0 0 (rows_from 16 0 rows)
-  rows_broken e f = sym (filled e ∙ no_left _ _ f)
+    -- one that breaks a rule
+    pub rows_broken : (good_row last row && ltb a row.record_date && ltb b row.beneficiary_date) ≡ false
+        → false ≡ good_rows last 0 0 (rows_from 16 0 rows)
+    rows_broken f = sym (filled ∙ no_left _ _ f)
 
-  -- a filled row that keeps them
-  pub rows_step : all (λ w. eqb w 0) (row_part rows i) ≡ false → good_row last (row_of 0 (row_part rows i)) ≡ true
-      → a < get_or (row_part rows i) 0 0 → b < get_or (row_part rows i) 1 0
-      → Rowed last rows (get_or (row_part rows i) 0 0) (get_or (row_part rows i) 1 0) (i + 1)
-  rows_step e g r s =
-      record {
-        small = omega arith;
-        rest = filled e ∙ rw (g, lt-ltb a (get_or (row_part rows i) 0 0) r, lt-ltb b (get_or (row_part rows i) 1 0) s);
-      }
+    -- one that keeps them
+    pub rows_step : good_row last row ≡ true → a < row.record_date → b < row.beneficiary_date
+        → Rowed last rows row.record_date row.beneficiary_date (i + 1)
+    rows_step g r s =
+        record {
+          small = omega arith;
+          rest = filled ∙ rw (g, lt-ltb a row.record_date r, lt-ltb b row.beneficiary_date s);
+        }
 
 pub rows_end : {last a b i : ℕ} {rows : List ℕ} → 16 ≤ i → Rowed last rows a b i → true ≡ good_rows last 0 0 (rows_from 16 0 rows)
 unfolding good_rows rows_from

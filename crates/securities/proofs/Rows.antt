@@ -83,7 +83,7 @@ words_of_row :
       payment_date = 20230415;
       interest_factor = 5000000;
       principal_factor = 250000000;
-      final = 1;
+      redeems = 1;
       mask = 6;
     }
 unfolding opened_securities

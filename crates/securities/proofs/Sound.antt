@@ -13,7 +13,7 @@ use Rattle.lists.specs.Tests.{and_left, and_right, and_both, below_at}
 use Rattle.lists.specs.All.{all, all_at, all_weaken}
 use Rattle.lists.specs.Select.{select, rising, all_select, all_drop}
 use Rattle.days.specs.Days.{is_date, last_open}
-use Rattle.securities.specs.Lent.{from_one_to, good_limits, good_pieces, piece_of}
+use Rattle.securities.specs.Lent.{from_one_to, good_limits, good_pieces, piece_of, is_mbs, maximum_for, maximum_of}
 use Rattle.securities.specs.Securities.{security_of, type_of, frequency_of, Row, row_of, rows_from, rows_of, is_empty, is_filled, filled_rows, good_row, good_rows, good_security, good_tables}
 
 -- ---- a row's rules, each by itself
@@ -24,7 +24,7 @@ pub record Good (last : ℕ) (row : Row) : Type 0 where
   pub payment_is_date : is_date row.payment_date ≡ true
   pub interest : row.interest_factor ≤ 2000000000
   pub principal : row.principal_factor ≤ 2000000000
-  pub final : row.final ≤ 1
+  pub redeems : row.redeems ≤ 1
   pub mask : row.mask ≤ 65535
   pub recorded : row.record_date ≤ row.payment_date
   pub due : row.beneficiary_date ≤ row.payment_date
@@ -39,7 +39,7 @@ good_row_lem last row e =
       payment_is_date = search (and_left, and_right, e) depth 12;
       interest = leb-true row.interest_factor 2000000000 (search (and_left, and_right, e) depth 12);
       principal = leb-true row.principal_factor 2000000000 (search (and_left, and_right, e) depth 12);
-      final = leb-true row.final 1 (search (and_left, and_right, e) depth 12);
+      redeems = leb-true row.redeems 1 (search (and_left, and_right, e) depth 12);
       mask = leb-true row.mask 65535 (search (and_left, and_right, e) depth 12);
       recorded = leb-true row.record_date row.payment_date (search (and_left, and_right, e) depth 12);
       due = leb-true row.beneficiary_date row.payment_date (search (and_left, and_right, e) depth 12);
@@ -63,7 +63,7 @@ record After (last record_date beneficiary_date : ℕ) (rows : List Row) : Type 
   due : all (λ row. ltb beneficiary_date row.beneficiary_date) rows ≡ true
 
 after_none : (last a b : ℕ) → After last a b []
-unfolding all rising
+unfolding rising
 after_none last a b = record { good = refl; records = refl; beneficiaries = refl; recorded = refl; due = refl }
 
 -- later than a later date
@@ -72,7 +72,7 @@ later key a b rows h t = all_weaken _ _ rows t (λ row e. let g = ltb-true b (ke
 
 after_one : (last a b : ℕ) (row : Row) (rows : List Row) → good_row last row ≡ true → a < row.record_date → b < row.beneficiary_date
     → After last row.record_date row.beneficiary_date rows → After last a b (row ∷ rows)
-unfolding all rising
+unfolding rising
 after_one last a b row rows g h k f =
     record {
       good = and_both g f.good;
@@ -84,7 +84,7 @@ after_one last a b row rows g h k f =
 
 -- empty rows hold no filled one
 pub none_filled : (rows : List Row) → all is_empty rows ≡ true → select is_filled rows ≡ []
-unfolding all select is_filled
+unfolding select is_filled
 none_filled [] t = refl
 none_filled (row ∷ rows) t =
     rw (and_left (is_empty row) (all is_empty rows) t) (none_filled rows (and_right (is_empty row) (all is_empty rows) t))
@@ -110,13 +110,12 @@ after last a b (row ∷ rows) e = go (is_empty row) e (λ k. after last row.reco
 
 -- their numbers are below 16
 indexes_below : (n i : ℕ) (words : List ℕ) → i + n ≤ 16 → all (λ row. ltb row.index 16) (rows_from n i words) ≡ true
-unfolding all rows_from row_of
+unfolding rows_from row_of
 indexes_below zero i words h = refl
 indexes_below (suc n) i words h = and_both (lt-ltb i 16 (omega arith)) (indexes_below n (suc i) (drop 7 words) (omega arith))
 
 -- words of zeros are empty rows
 pub zero_at : (words : List ℕ) (k : ℕ) → all (λ w. eqb w 0) words ≡ true → eqb (get_or words k 0) 0 ≡ true
-unfolding all
 zero_at [] k t = refl
 zero_at (w ∷ ws) zero t = and_left (eqb w 0) (all (λ w. eqb w 0) ws) t
 zero_at (w ∷ ws) (suc k) t = zero_at ws k (and_right (eqb w 0) (all (λ w. eqb w 0) ws) t)
@@ -127,7 +126,7 @@ zeros_row i words t =
     rw (zero_at words 0 t, zero_at words 1 t, zero_at words 2 t, zero_at words 3 t, zero_at words 4 t, zero_at words 5 t, zero_at words 6 t)
 
 pub zeros_empty : (n i : ℕ) (words : List ℕ) → all (λ w. eqb w 0) words ≡ true → all is_empty (rows_from n i words) ≡ true
-unfolding all rows_from
+unfolding rows_from
 zeros_empty zero i words t = refl
 zeros_empty (suc n) i words t = and_both (zeros_row i words t) (zeros_empty n (suc i) (drop 7 words) (all_drop _ 7 words t))
 
@@ -186,3 +185,14 @@ read_any (x ∷ xs) (suc k) d e h = read_any xs k d e (le_of_suc-le-suc h)
 pub piece_read : (pieces : List ℕ) (s : ℕ) → good_pieces pieces ≡ true → s < 16 → get_or pieces s 0 ≡ piece_of pieces s
 unfolding piece_of
 piece_read pieces s e h = let n = sixteen_pieces pieces e in read_any pieces s 0 1 (omega (arith, n))
+
+-- ---- the maximum number of a security
+
+pub maximum_mbs : (tables limits : List ℕ) (s : ℕ) → is_mbs (type_of (security_of tables s)) ≡ true → get_or limits 0 0 ≡ maximum_of tables limits s
+unfolding maximum_of maximum_for
+maximum_mbs tables limits s e = rw e refl
+
+pub maximum_other : (tables limits : List ℕ) (s : ℕ) {f : ℕ} → is_mbs (type_of (security_of tables s)) ≡ false
+    → f ≡ frequency_of (security_of tables s) → get_or limits f 0 ≡ maximum_of tables limits s
+unfolding maximum_of maximum_for
+maximum_other tables limits s {f} e q = rw (e, q) refl

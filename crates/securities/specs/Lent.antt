@@ -1,7 +1,8 @@
 -- What a transfer is lent beside calendar and tables. Document 02, card 5: date limits, which are maximum numbers of Beneficiary Dates.
 -- Card 6: minimum pieces, the par that each security is delivered in multiples of.
-use Rattle.std.specs.Prelude.{Bool, ◌&&◌, List, ℕ, eqb, leb, length, get_or, replicate}
+use Rattle.std.specs.Prelude.{Bool, cond, ◌&&◌, List, ℕ, eqb, leb, length, get_or, replicate}
 use Rattle.lists.specs.All.{all}
+use Rattle.securities.specs.Securities.{security_of, type_of, frequency_of}
 
 -- A number from 1 to a largest.
 unfoldable pub from_one_to : ℕ → ℕ → Bool
@@ -22,6 +23,20 @@ unfoldable pub good_limits : List ℕ → Bool
 good_limits limits =
     eqb (length limits) limit_words && all (from_one_to largest_limit) limits
     && leb (get_or limits 2 0) (get_or limits 1 0) && leb (get_or limits 3 0) (get_or limits 2 0) && leb (get_or limits 4 0) (get_or limits 3 0)
+
+-- Types 3 and 4 are MBS.
+unfoldable pub is_mbs : ℕ → Bool
+is_mbs type = leb 3 type
+
+-- Of such numbers the one for a type and a frequency.
+unfoldable pub maximum_for : List ℕ → ℕ → ℕ → ℕ
+maximum_for numbers type frequency = cond (is_mbs type) (get_or numbers 0 0) (get_or numbers frequency 0)
+
+-- The maximum number of a security by the date limits that the transfer is lent.
+unfoldable pub maximum_of : List ℕ → List ℕ → ℕ → ℕ
+maximum_of tables limits s =
+    let words = security_of tables s in
+    maximum_for limits (type_of words) (frequency_of words)
 
 -- ---- minimum pieces
 

@@ -1,10 +1,11 @@
 -- Document 01, section Securities and payments: the tables, their rows and the rules that they keep.
-use Rattle.std.specs.Prelude.{Bool, true, cond, not, ◌&&◌, List, [], ◌∷◌, ℕ, zero, suc, ◌*◌, eqb, ltb, leb, get_or, drop}
+use Rattle.std.specs.Prelude.{Bool, true, cond, not, ◌&&◌, List, [], ◌∷◌, ℕ, zero, suc, ◌+◌, ◌*◌, eqb, ltb, leb, get_or, drop}
 use Rattle.lists.specs.Tests.{below}
 use Rattle.lists.specs.All.{all}
 use Rattle.lists.specs.Fields.{part}
 use Rattle.lists.specs.Select.{select}
 use Rattle.days.specs.Days.{is_date, last_open}
+pub use Rattle.securities.specs.declared.Row.{Row}
 
 -- ---- the words
 
@@ -38,18 +39,6 @@ frequency_of words = get_or words 1 0
 
 -- ---- the rows
 
--- A row and its number in the security, 0 to 15. Factors are billionths of a dollar for each dollar of par; final is 1 if the
--- payment redeems the security; bit a of the mask is on if account a's payment went to a non-interest-bearing account.
-pub record Row : Type 0 where
-  pub index : ℕ
-  pub record_date : ℕ
-  pub beneficiary_date : ℕ
-  pub payment_date : ℕ
-  pub interest_factor : ℕ
-  pub principal_factor : ℕ
-  pub final : ℕ
-  pub mask : ℕ
-
 -- The row that seven words hold.
 unfoldable pub row_of : ℕ → List ℕ → Row
 row_of index words =
@@ -60,9 +49,13 @@ row_of index words =
       payment_date = get_or words 2 0;
       interest_factor = get_or words 3 0;
       principal_factor = get_or words 4 0;
-      final = get_or words 5 0;
+      redeems = get_or words 5 0;
       mask = get_or words 6 0;
     }
+
+-- The row with a number of a security, in its place in the tables.
+unfoldable pub row_at : List ℕ → ℕ → ℕ → Row
+row_at tables s i = row_of i (part (114 * s + 2 + 7 * i) 7 tables)
 
 -- n rows from a number on.
 unfoldable pub rows_from : ℕ → ℕ → List ℕ → List Row
@@ -77,7 +70,7 @@ rows_of words = rows_from row_count 0 (drop 2 words)
 unfoldable pub is_empty : Row → Bool
 is_empty row =
     eqb row.record_date 0 && eqb row.beneficiary_date 0 && eqb row.payment_date 0 && eqb row.interest_factor 0
-    && eqb row.principal_factor 0 && eqb row.final 0 && eqb row.mask 0
+    && eqb row.principal_factor 0 && eqb row.redeems 0 && eqb row.mask 0
 
 -- Any other row is filled.
 unfoldable pub is_filled : Row → Bool
@@ -101,7 +94,7 @@ unfoldable pub good_row : ℕ → Row → Bool
 good_row last row =
     is_date row.record_date && is_date row.beneficiary_date && is_date row.payment_date
     && leb row.interest_factor largest_factor && leb row.principal_factor largest_factor
-    && leb row.final 1 && leb row.mask largest_mask
+    && leb row.redeems 1 && leb row.mask largest_mask
     && leb row.record_date row.payment_date && leb row.beneficiary_date row.payment_date
     && leb row.payment_date last
 
