@@ -9,8 +9,7 @@ use borrow.Author.Tests.{eq-eqb, ne_eqb, lt-ltb, le-leb, lt-leb}
 use Rattle.lists.specs.All.{all}
 use Rattle.lists.specs.Fields.{part}
 use Rattle.days.specs.declared.Date.{Date}
-use Rattle.days.specs.declared.Checked.{Checked}
-use Rattle.days.specs.declared.Checked.TheVariants.{Is, Not}
+use Rattle.std.proofs.Common.{Option, Some, None}
 use Rattle.days.specs.Days.{checked}
 use Rattle.days.proofs.Parts.{is_date_lem, not_date}
 use Rattle.tags.specs.declared.Tag.TheVariants.{Absent, Several, Unended, Empty, NotDate, On}
@@ -28,14 +27,14 @@ module _ (bs : List ℕ) where
     unfolding tag_holding writes_date
     holding_other e = rw (eq-eqb (length bs) 8 h, e)
 
-    module _ {n : ℕ} {r : Checked} (t : all is_digit bs ≡ true) (e : digits_number bs ≡ n) (c : r ≡ checked n) where
-      pub holding_date : {d : Date} → r ≡ Is d → On d ≡ tag_holding bs
+    module _ {n : ℕ} {r : Option Date} (t : all is_digit bs ≡ true) (e : digits_number bs ≡ n) (c : r ≡ checked n) where
+      pub holding_date : {d : Date} → r ≡ Some d → On d ≡ tag_holding bs
       unfolding tag_holding writes_date
       holding_date f =
           let i = is_date_lem n c f in
           ap (λ (x : ℕ). On (record { 0 = x })) (i.1 ∙ sym e) ∙ rw (eq-eqb (length bs) 8 h, t, e, i.0)
 
-      pub holding_not : r ≡ Not → NotDate ≡ tag_holding bs
+      pub holding_not : r ≡ None → NotDate ≡ tag_holding bs
       unfolding tag_holding writes_date
       holding_not f = rw (eq-eqb (length bs) 8 h, t, e, not_date n c f)
 

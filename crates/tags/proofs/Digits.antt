@@ -108,7 +108,6 @@ written_number n h =
     simp minus (rw (s7, s6, s5, s4, s3, s2, s1, s0))
 
 pub written_digits : (n : ℕ) → all is_digit (written n) ≡ true
-unfolding all
 written_digits n =
     let d : (k : ℕ) → is_digit (48 + k % 10) ≡ true = λ k. digit (48 + k % 10) (omega arith) (omega arith) in
     rw (d (n / 10000000), d (n / 1000000), d (n / 100000), d (n / 10000), d (n / 1000), d (n / 100), d (n / 10), d n)

@@ -1,4 +1,4 @@
--- A quick look at a line: one whose bytes hold no { has no opener (`no-brace` in proofs/Quick.antt). The count asks no question of a
+-- A quick look at a line: one whose bytes hold no { has no opener (`no_brace` in proofs/Quick.antt). The count asks no question of a
 -- single byte, so that many can be taken at once.
 use Rattle.std.specs.Prelude.{cond, ℕ, eqb}
 

@@ -5,16 +5,18 @@
 ghost use Rattle.std.specs.Prelude.{◌≡◌, ◌+◌, ◌≤◌, length, get_or};
 ghost use Rattle.lists.specs.First.{first_of};
 ghost use Rattle.lists.specs.Sums.{sum};
+ghost use Rattle.records.specs.Refusals.{judged_number};
 ghost use Rattle.tags.specs.Quick.{brace_of};
 ghost use Rattle.tags.specs.ContractDateTag.{openers, end_from, tag_holding, tag_at, tag_of, on_day, edit_causes};
 
-use days::{Checked, Date};
+use days::Date;
+use records::Refusal;
 
 const OPENER: [u8; 10] = *b"{98A:CNTR/";
 
 // What the Contract Date tag says: there is no opener; there are several; no } follows; it follows at once; what it holds is not a date;
 // the date.
-#[derive(Clone, Copy)]
+#[derive(Clone, Copy, Debug, PartialEq, Eq)]
 pub enum Tag {
     Absent,
     Several,
@@ -39,20 +41,15 @@ fn scan(line: &[u8]) -> Found
 {
     let mut count: usize = 0;
     let mut first: usize = 0;
-    let mut i: usize = 0;
-    'scan: while i + 10 <= line.len() {
-        let at = i;
-        let part = &line[at..at + 10];
-        i += 1;
-        let mut j: usize = 0;
-        while j < 10 {
+    'scan: for i in 0..line.len() - 9 {
+        let part = &line[i..i + 10];
+        for j in 0..10 {
             if part[j] != OPENER[j] {
                 continue 'scan;
             }
-            j += 1;
         }
         if count == 0 {
-            first = at;
+            first = i;
         }
         count += 1;
     }
@@ -75,10 +72,8 @@ fn braces(line: &[u8]) -> u8
     ensures { result ≡ sum brace_of line.now }
 {
     let mut n: u8 = 0;
-    let mut i: usize = 0;
-    while i < 64 {
+    for i in 0..64 {
         n += brace(line[i]);
-        i += 1;
     }
     n
 }
@@ -120,9 +115,7 @@ fn tag_holding(content: &[u8]) -> Tag
         return Tag::NotDate;
     }
     let mut n: u32 = 0;
-    let mut i: usize = 0;
-    while i < 8 {
-        let b = content[i];
+    for &b in content {
         if b < b'0' {
             return Tag::NotDate;
         }
@@ -130,11 +123,10 @@ fn tag_holding(content: &[u8]) -> Tag
             return Tag::NotDate;
         }
         n = n * 10 + (b - b'0') as u32;
-        i += 1;
     }
     match Date::new(n) {
-        Checked::Is(date) => Tag::On(date),
-        Checked::Not => Tag::NotDate,
+        Some(date) => Tag::On(date),
+        None => Tag::NotDate,
     }
 }
 
@@ -195,32 +187,32 @@ pub fn tag_on(day: u32, first: &[u8], second: &[u8]) -> Tag
     on_day(day, tag_of(first, second))
 }
 
-// The number of the first edit that refuses the transfer, 0 if none does.
-pub fn edits(tag: Tag, class: u8, day: u32) -> u16
-    ensures { result ≡ first_of (edit_causes tag class day) }
+// The edits of a transfer: the first that refuses it.
+pub fn edits(tag: Tag, class: u8, day: u32) -> Result<(), Refusal>
+    ensures { judged_number result ≡ first_of (edit_causes tag class day) }
 {
     match tag {
-        Tag::Absent => 0,
-        Tag::Several => 132,
-        Tag::Unended => 133,
-        Tag::Empty => 135,
-        Tag::NotDate => 135,
+        Tag::Absent => Ok(()),
+        Tag::Several => Err(Refusal::SeveralTags),
+        Tag::Unended => Err(Refusal::UnendedTag),
+        Tag::Empty => Err(Refusal::TagNotDate),
+        Tag::NotDate => Err(Refusal::TagNotDate),
         Tag::On(date) => date_edits(date, class, day),
     }
 }
 
 // The edits of a tag with a date.
-fn date_edits(date: Date, class: u8, day: u32) -> u16
-    ensures { result ≡ first_of (edit_causes (Tag.On date) class day) }
+fn date_edits(date: Date, class: u8, day: u32) -> Result<(), Refusal>
+    ensures { judged_number result ≡ first_of (edit_causes (Tag.On date) class day) }
 {
     if day < date.0 {
-        return 138;
+        return Err(Refusal::LaterDate);
     }
     if class != 1 {
-        return 0;
+        return Ok(());
     }
     if date.0 != day {
-        return 139;
+        return Err(Refusal::OtherDate);
     }
-    0
+    Ok(())
 }
