@@ -13,7 +13,7 @@ use Rattle.lists.specs.First.{first_of, with_test}
 use Rattle.lists.specs.Tabulate.{each, each_of}
 use Rattle.records.specs.declared.Transfer.{Transfer}
 use Rattle.records.specs.MessageRecords.{transfer_of}
-use Rattle.securities.specs.Securities.{Row}
+use Rattle.securities.specs.declared.Row.{Row}
 use Rattle.claims.specs.Amounts.{lending_type}
 use Rattle.claims.specs.Close.{crossed, tracking_type, security_balances, lender_balances, tracking_claims, row_claims, close_claims}
 use Rattle.claims.proofs.Crossed.{balance_word}

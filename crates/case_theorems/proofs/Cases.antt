@@ -10,7 +10,7 @@ use lib.Dec.{eqb}
 use lib.ListN.{get_or, replicate}
 use Rattle.lists.specs.All.{all}
 use Rattle.days.specs.Weekdays.{weekdays}
-use Rattle.securities.specs.Securities.{Row}
+use Rattle.securities.specs.declared.Row.{Row}
 use Rattle.securities.specs.Cases.{case_tables}
 use Rattle.securities.specs.Lent.{ones}
 use Rattle.claims.specs.Amounts.{of_interest, of_principal, amount, fail_type, outcome_of}

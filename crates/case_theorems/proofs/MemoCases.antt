@@ -7,7 +7,8 @@ use Prim.Native.Nat.{ℕ}
 use lib.Dec.{eqb}
 use lib.ListN.{set}
 use Rattle.days.specs.Weekdays.{weekdays}
-use Rattle.claims.specs.Amounts.{of_interest, Parties}
+use Rattle.claims.specs.Amounts.{of_interest}
+use Rattle.claims.specs.declared.Parties.{Parties}
 use Rattle.claims.proofs.MemoRows.{over_memo, empty_line}
 use Rattle.history.specs.Calls.{Call}
 use Rattle.history.specs.Results.{opened, run, run_from}

@@ -10,7 +10,8 @@ use Rattle.days.specs.Weekdays.{weekdays}
 use Rattle.securities.specs.Cases.{case_tables}
 use Rattle.securities.specs.Lent.{ones}
 use Rattle.securities.proofs.LentRows.{five}
-use Rattle.claims.specs.Amounts.{of_interest, Parties}
+use Rattle.claims.specs.Amounts.{of_interest}
+use Rattle.claims.specs.declared.Parties.{Parties}
 use Rattle.history.specs.Calls.{Call}
 use Rattle.history.specs.Results.{opened, run_from}
 use Rattle.history.specs.Owed.{owed}

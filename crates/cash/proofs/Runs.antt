@@ -16,8 +16,7 @@ use Rattle.lists.specs.Numbers.{Bytes}
 use Rattle.lists.specs.Sums.{sum_append, sum_map}
 use Rattle.lists.specs.Tests.{and_left, and_right, and_both}
 use Rattle.records.specs.declared.Claim.{Claim}
-use Rattle.records.specs.declared.ReadClaim.{ReadClaim}
-use Rattle.records.specs.declared.ReadClaim.TheVariants.{Is, Refused}
+use Rattle.std.proofs.Common.{Option, Some, None}
 use Rattle.records.specs.MessageRecords.{claim_kind, claim_of, size, reads}
 use Rattle.records.proofs.Behind.{reads_enough, claim_behind}
 use Rattle.records.proofs.Readings.{claim_long, claim_decoded}
@@ -32,7 +31,7 @@ use Rattle.cash.specs.Runs.{RunOf, EveryGoodRun, EverySum, EveryJoin}
 -- ---- the records of claims
 
 module _ (claims : List Claim) (fit : AllFit claims) where
-  pub records_of_all : records_of (bytes_of_all claims) ≡ map Is claims
+  pub records_of_all : records_of (bytes_of_all claims) ≡ map Some claims
   unfolding records_of record_count written
   records_of_all =
       let n : (length (bytes_of_all claims) + 34) / 35 ≡ length claims = omega (arith, all_length claims) in
@@ -44,11 +43,11 @@ unfolding cents_to_pay cents_to_receive
 every_sum claims account date fit =
     let e = records_of_all claims fit in
     record {
-      pay_over = rw e (sum_map (pay_on account date) Is claims);
-      receive_over = rw e (sum_map (receive_on account date) Is claims);
+      pay_over = rw e (sum_map (pay_on account date) Some claims);
+      receive_over = rw e (sum_map (receive_on account date) Some claims);
     }
 
-pub all_good : (claims : List Claim) → all is_good (map Is claims) ≡ all good_parties claims
+pub all_good : (claims : List Claim) → all is_good (map Some claims) ≡ all good_parties claims
 unfolding all is_good
 all_good [] = refl
 all_good (c ∷ cs) = ap (λ (b : Bool). good_parties c && b) (all_good cs)
@@ -64,7 +63,7 @@ good_record : (s : List ℕ) → is_good (read_claim s) ≡ true → GoodRecord 
 unfolding read_claim is_good
 good_record s g = go (reads claim_kind s) refl g
   where
-    go : (b : Bool) → reads claim_kind s ≡ b → is_good (cond b (Is (claim_of s)) Refused) ≡ true → GoodRecord s
+    go : (b : Bool) → reads claim_kind s ≡ b → is_good (cond b (Some (claim_of s)) None) ≡ true → GoodRecord s
     go true e g = record { whole = e; parties = g }
     go false e g = let z : ◌≡◌ {A = ℕ} 0 1 = cc in absurd (omega arith)
 
@@ -119,7 +118,7 @@ unfolding readings
 readings_join zero m s t e = rw (zero-add m, nothing s (omega arith))
 readings_join (suc n) m s t e =
     rw (suc-add n m, drop-append-le 35 s t (omega arith))
-    (ap₂ (λ (r : ReadClaim) (rs : List ReadClaim). r ∷ rs) (read_front s t (omega arith))
+    (ap₂ (λ (r : Option Claim) (rs : List (Option Claim)). r ∷ rs) (read_front s t (omega arith))
     (readings_join n m (drop 35 s) t (omega (arith, length-drop 35 s))))
 
 all_join : {A : Type 0} (p : A → Bool) (xs ys : List A) → all p (xs ++ ys) ≡ all p xs && all p ys

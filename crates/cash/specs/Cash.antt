@@ -8,8 +8,7 @@ use Rattle.lists.specs.First.{Cause, cause, first_of}
 use Rattle.lists.specs.Sums.{sum}
 use Rattle.days.specs.Days.{is_date}
 use Rattle.records.specs.declared.Claim.{Claim}
-use Rattle.records.specs.declared.ReadClaim.{ReadClaim}
-use Rattle.records.specs.declared.ReadClaim.TheVariants.{Is, Refused}
+use Rattle.std.specs.Prelude.{Option, Some, None}
 use Rattle.claims.specs.Written.{claim_size, readings}
 use Rattle.cash.specs.declared.Cash.{Cash}
 use Rattle.cash.specs.declared.CashForecast.{CashForecast}
@@ -21,7 +20,7 @@ unfoldable pub record_count : ℕ → ℕ
 record_count bytes = (bytes + 34) / claim_size
 
 -- The records of a run, read one behind the other. One that is cut, or has a wrong length or kind, reads as refused.
-unfoldable pub records_of : List ℕ → List ReadClaim
+unfoldable pub records_of : List ℕ → List (Option Claim)
 records_of run = readings (record_count (length run)) run
 
 -- A claim whose payer and payee are two different accounts, 0 to 15.
@@ -29,9 +28,9 @@ unfoldable pub good_parties : Claim → Bool
 good_parties c = not (eqb c.payer c.payee) && (leb c.payer 15 && leb c.payee 15)
 
 -- A record that is not bad.
-unfoldable pub is_good : ReadClaim → Bool
-is_good (Is c) = good_parties c
-is_good Refused = false
+unfoldable pub is_good : Option Claim → Bool
+is_good (Some c) = good_parties c
+is_good None = false
 
 -- A run with a cut or bad record, whatever that record's outcome and release date.
 unfoldable pub bad_run : List ℕ → Bool
@@ -48,13 +47,13 @@ unfoldable pub cents_of : Claim → ℕ
 cents_of c = c.interest.0 + c.principal.0
 
 -- What a record adds to the cents that an account pays, and to those that it receives.
-unfoldable pub pay_on : ℕ → ℕ → ReadClaim → ℕ
-pay_on account date (Is c) = cond (counts date c && eqb c.payer account) (cents_of c) 0
-pay_on account date Refused = 0
+unfoldable pub pay_on : ℕ → ℕ → Option Claim → ℕ
+pay_on account date (Some c) = cond (counts date c && eqb c.payer account) (cents_of c) 0
+pay_on account date None = 0
 
-unfoldable pub receive_on : ℕ → ℕ → ReadClaim → ℕ
-receive_on account date (Is c) = cond (counts date c && eqb c.payee account) (cents_of c) 0
-receive_on account date Refused = 0
+unfoldable pub receive_on : ℕ → ℕ → Option Claim → ℕ
+receive_on account date (Some c) = cond (counts date c && eqb c.payee account) (cents_of c) 0
+receive_on account date None = 0
 
 -- The cents that a run has the account pay, and receive, on the date.
 unfoldable pub cents_to_pay : List ℕ → ℕ → ℕ → ℕ

@@ -4,7 +4,7 @@ use Rattle.lists.specs.All.{all}
 use Rattle.lists.specs.Numbers.{Bytes}
 use Rattle.lists.specs.Sums.{sum}
 use Rattle.records.specs.declared.Claim.{Claim}
-use Rattle.records.specs.declared.ReadClaim.TheVariants.{Is}
+use Rattle.std.specs.Prelude.{Option, Some, None}
 use Rattle.claims.specs.Written.{claim_size, bytes_of_all, AllFit}
 use Rattle.cash.specs.Cash.{good_parties, bad_run, pay_on, receive_on, cents_to_pay, cents_to_receive}
 
@@ -20,8 +20,8 @@ EveryGoodRun = (run : List ℕ) → Bytes run → (bad_run run ≡ false) ↔ ((
 
 -- Its sums are those over the claims.
 pub record SumsOverClaims (claims : List Claim) (account date : ℕ) : Type 0 where
-  pub pay_over : cents_to_pay (bytes_of_all claims) account date ≡ sum (λ c. pay_on account date (Is c)) claims
-  pub receive_over : cents_to_receive (bytes_of_all claims) account date ≡ sum (λ c. receive_on account date (Is c)) claims
+  pub pay_over : cents_to_pay (bytes_of_all claims) account date ≡ sum (λ c. pay_on account date (Some c)) claims
+  pub receive_over : cents_to_receive (bytes_of_all claims) account date ≡ sum (λ c. receive_on account date (Some c)) claims
 
 abbrev pub EverySum : Type 0
 EverySum = (claims : List Claim) (account date : ℕ) → AllFit claims → SumsOverClaims claims account date

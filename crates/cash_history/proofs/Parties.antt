@@ -13,9 +13,10 @@ use Rattle.lists.specs.Tabulate.{each, each_of}
 use Rattle.lists.specs.Tests.{and_both}
 use Rattle.records.specs.declared.Transfer.{Transfer}
 use Rattle.records.specs.MessageRecords.{transfer_of}
-use Rattle.securities.specs.Securities.{Row}
+use Rattle.securities.specs.declared.Row.{Row}
 use Rattle.tags.specs.declared.Tag.{Tag}
-use Rattle.claims.specs.Amounts.{Parties, claim_on}
+use Rattle.claims.specs.Amounts.{claim_on}
+use Rattle.claims.specs.declared.Parties.{Parties}
 use Rattle.claims.specs.Fails.{dues, contract_tag, transfer_parties, transfer_claims}
 use Rattle.claims.specs.Close.{crossed, loan_parties, loan_claim, security_balances, lender_balances, tracking_claims, row_claims, close_claims}
 use Rattle.claims.proofs.Crossed.{balance_word}

@@ -8,7 +8,7 @@ use lib.ListN.{length, take, drop}
 use lib.Seq.{take_at}
 use Rattle.lists.specs.All.{all, all_append}
 use Rattle.lists.specs.First.{first_of}
-use Rattle.records.specs.declared.ReadClaim.{ReadClaim}
+use Rattle.std.proofs.Common.{Option, Some, None}
 use Rattle.claims.proofs.Passes.{all_length}
 use Rattle.claims.specs.Written.{bytes_of_all, written, readings}
 use Rattle.claims.proofs.Written.{readings_written}
@@ -58,7 +58,7 @@ module _ (calendar tables : List ℕ) where
     join_same : records_of (handed_out answers) ≡ records_in answers → records_of (handed_out (a ∷ answers)) ≡ records_in (a ∷ answers)
     unfolding handed_out records_in counted
     join_same e =
-        records_join (counted a) (handed_out answers) a.claims h.whole ∙ ap₂ (λ (x y : List ReadClaim). x ++ y) h.same e
+        records_join (counted a) (handed_out answers) a.claims h.whole ∙ ap₂ (λ (x y : List (Option Claim)). x ++ y) h.same e
 
     join_good : all is_good (records_in answers) ≡ true → all is_good (records_in (a ∷ answers)) ≡ true
     unfolding records_in

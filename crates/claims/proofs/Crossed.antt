@@ -12,7 +12,8 @@ use lib.Seq.{get_or-take, get_or-drop}
 use borrow.Author.Tests.{ltb-true, leb-true, lt-ltb, le-leb}
 use Rattle.lists.specs.Tests.{and_left, and_right, and_both}
 use Rattle.lists.specs.Select.{rising, rising_select}
-use Rattle.securities.specs.Securities.{Row, filled_rows}
+use Rattle.securities.specs.Securities.{filled_rows}
+use Rattle.securities.specs.declared.Row.{Row}
 use Rattle.claims.specs.Close.{crosses, crossed, security_balances, lender_balances}
 
 pub crosses_words : (day next : ℕ) (row : Row) → (crosses day next row ≡ true) ↔ ((day < row.record_date) × (row.record_date ≤ next))

@@ -14,7 +14,8 @@ use Rattle.lists.specs.Tests.{and_left, and_right}
 use Rattle.lists.specs.Select.{select, rising, select_halves, rising_select}
 use Rattle.days.specs.MemoDay.{before_memo}
 use Rattle.records.specs.declared.Transfer.{Transfer}
-use Rattle.securities.specs.Securities.{security_of, type_of, Row, rows_of, is_filled, filled_rows, good_row}
+use Rattle.securities.specs.Securities.{security_of, type_of, rows_of, is_filled, filled_rows, good_row}
+use Rattle.securities.specs.declared.Row.{Row}
 use Rattle.securities.proofs.Sound.{good_row_lem}
 use Rattle.tags.specs.declared.Tag.{Tag}
 use Rattle.tags.specs.ContractDateTag.{contract_date}

@@ -15,7 +15,7 @@ use Rattle.lists.specs.Tests.{and_left, and_right, and_both}
 use Rattle.lists.specs.All.{all}
 use Rattle.lists.specs.Select.{select, last_of, keep_first, rising, select_agree, select_same, select_never, select_both, last_none, last_front, rising_select, one_kept, keep_first_words}
 use Rattle.days.specs.MemoDay.{six_months_before}
-use Rattle.securities.specs.Securities.{Row}
+use Rattle.securities.specs.declared.Row.{Row}
 use Rattle.claims.specs.Fails.{is_mbs, eligible_in, waits, cut, within_half_year, eligible_before}
 
 -- a test of all rows, and one of each

@@ -12,7 +12,8 @@ use Rattle.lists.specs.Tests.{and_left, and_right, and_both}
 use Rattle.lists.specs.All.{all, all_weaken}
 use Rattle.lists.specs.Select.{select}
 use Rattle.days.specs.Days.{is_date}
-use Rattle.securities.specs.Securities.{largest_factor, Row, is_empty, is_filled, good_row, good_rows}
+use Rattle.securities.specs.Securities.{largest_factor, is_empty, is_filled, good_row, good_rows}
+use Rattle.securities.specs.declared.Row.{Row}
 use Rattle.securities.proofs.Sound.{good_row_lem, none_filled}
 use Rattle.claims.specs.Fails.{is_interim}
 use Rattle.claims.specs.Reached.{leading, date_at, is_reached}
@@ -202,7 +203,6 @@ module _ (last day : ℕ) where
       rw (le-leb row.interest_factor largest_factor g.interest, le-leb row.principal_factor largest_factor g.principal)
 
   pub all_in_range : (a b : ℕ) (rows : List Row) → good_rows last a b rows ≡ true → all in_range rows ≡ true
-  unfolding all
   all_in_range a b [] e = refl
   all_in_range a b (row ∷ rows) e = go (cases a b row rows e) (all_in_range row.record_date row.beneficiary_date rows)
     where

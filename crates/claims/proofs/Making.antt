@@ -6,7 +6,8 @@ use lib.ListN.{length, take, drop, get_or}
 use Rattle.lists.specs.Put.{put}
 use Rattle.records.specs.declared.Cents.{Cents}
 use Rattle.records.specs.declared.Claim.{Claim}
-use Rattle.records.specs.declared.Wrote.{Wrote}
+use Rattle.std.proofs.Common.{Result}
+use Rattle.records.specs.declared.Refusal.{Refusal}
 use Rattle.records.specs.MessageRecords.{claim_kind, claim_values, size, Writing, writing, wrote_number}
 use Rattle.records.proofs.Answers.{stored_record}
 use Rattle.securities.specs.Securities.{row_of}
@@ -44,7 +45,7 @@ module _ (calendar tables row : List ℕ) (day number security payee payer par c
 -- ---- the record
 
 -- a claim written to the part of a buffer from its record place on is put there
-pub stored_claim : (l o : List ℕ) (n : ℕ) (c : Claim) (r : Wrote) → 35 * n + 35 ≤ length l
+pub stored_claim : (l o : List ℕ) (n : ℕ) (c : Claim) (r : Result Unit Refusal) → 35 * n + 35 ≤ length l
     → ◌≡◌ {A = Writing} (record { number = wrote_number r; buffer = o })
     (writing claim_kind (claim_values c) [] (take (length l - 35 * n) (drop (35 * n) l)))
     → take (35 * n) l ++ (o ++ drop (length l - 35 * n) (drop (35 * n) l)) ≡ put l (35 * n) (claim_bytes c)

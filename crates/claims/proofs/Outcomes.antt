@@ -9,8 +9,10 @@ use lib.Dec.{eqb}
 use borrow.Author.Tests.{eq-eqb, ne_eqb, eqb-true, le-leb, lt-leb}
 use Rattle.days.specs.Days.{bit_on, open_after, open_from}
 use Rattle.records.specs.declared.Claim.{Claim}
-use Rattle.securities.specs.Securities.{security_of, type_of, Row, good_row}
-use Rattle.claims.specs.Amounts.{fail_type, interim_type, Part, of_interest, of_principal, cents_on, cents_for, factor_for, amount, is_tracked, outcome_of, is_late, release_of, is_early, slot_of, Parties, claim_on}
+use Rattle.securities.specs.Securities.{security_of, type_of, good_row}
+use Rattle.securities.specs.declared.Row.{Row}
+use Rattle.claims.specs.Amounts.{fail_type, interim_type, Part, of_interest, of_principal, cents_on, cents_for, factor_for, amount, is_tracked, outcome_of, is_late, release_of, is_early, slot_of, claim_on}
+use Rattle.claims.specs.declared.Parties.{Parties}
 use Rattle.claims.specs.Close.{tracking_type}
 use Rattle.claims.proofs.Dues.{is_interim_of, interim_timely}
 

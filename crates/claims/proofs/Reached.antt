@@ -19,7 +19,8 @@ use Rattle.days.specs.Days.{last_open}
 use Rattle.days.specs.MemoDay.{six_months_before}
 use Rattle.records.specs.declared.Claim.{Claim}
 use Rattle.records.specs.declared.Transfer.{Transfer}
-use Rattle.securities.specs.Securities.{security_of, type_of, Row, rows_of, filled_rows, good_tables}
+use Rattle.securities.specs.Securities.{security_of, type_of, rows_of, filled_rows, good_tables}
+use Rattle.securities.specs.declared.Row.{Row}
 use Rattle.tags.specs.declared.Tag.{Tag}
 use Rattle.tags.specs.ContractDateTag.{tagged}
 use Rattle.claims.specs.Amounts.{fail_type, interim_type, claim_on}
@@ -61,7 +62,7 @@ module _ (calendar tables : List ℕ) (day number : ℕ) (t : Transfer) where
 kept_behind : (contract day n : ℕ) (rows : List Row) → all (λ row. ltb row.index n) rows ≡ true
     → select (λ row. ltb contract row.beneficiary_date) rows ≡ select (is_kept_by contract n day) rows
 unfolding is_kept_by
-kept_behind contract day n rows b = select_agree _ _ _ rows b (λ row h. rw (le-ltb n row.index (omega (arith, ltb-true row.index n h))))
+kept_behind contract day n rows b = select_agree _ _ _ rows b (λ row (h : ltb row.index n ≡ true). rw (le-ltb n row.index (omega (arith, ltb-true row.index n h))))
 
 -- where all rows have numbers below n, which stands for none of them
 cut_by_number : (type contract day n : ℕ) (rows : List Row) → rising (λ row. row.index) rows ≡ true → all (λ row. ltb row.index n) rows ≡ true
@@ -181,7 +182,7 @@ module _ (calendar tables : List ℕ) (day : ℕ) (t : Transfer) where
         let row = row_at tables t.security 0 in
         let few = few_reached tables t.security day in
         let long = length-take-le (reached_now - first) (drop first rows) (omega (arith, few, length-drop first rows, length_rows_of tables t.security)) in
-        all_of _ _ row (λ k l.
+        all_of (λ row. ltb row.index reached_now) (take (reached_now - first) (drop first rows)) row (λ k (l : k < length (take (reached_now - first) (drop first rows))).
         let here : k < reached_now - first = omega arith in
         rw (get_or-take (reached_now - first) (drop first rows) k row here, row_behind tables t.security first k row (omega arith), row_number tables t.security (first + k))
         (lt-ltb (first + k) reached_now (omega arith)))

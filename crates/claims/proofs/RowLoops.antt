@@ -15,7 +15,8 @@ use Rattle.lists.specs.Select.{first_key}
 use Rattle.lists.specs.Tabulate.{each}
 use Rattle.records.specs.declared.Claim.{Claim}
 use Rattle.records.specs.declared.Transfer.{Transfer}
-use Rattle.securities.specs.Securities.{security_of, type_of, Row, row_of, rows_of}
+use Rattle.securities.specs.Securities.{security_of, type_of, row_of, rows_of}
+use Rattle.securities.specs.declared.Row.{Row}
 use Rattle.claims.specs.Fails.{is_mbs, waits}
 use Rattle.claims.specs.Claimable.{Claimable}
 use Rattle.claims.specs.Passes.{Free, Passed, pass_start, pass_now, pass_end}

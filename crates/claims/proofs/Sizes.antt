@@ -20,9 +20,11 @@ use Rattle.records.specs.MessageRecords.{claim_kind, claim_values}
 use Rattle.records.specs.declared.Transfer.{Transfer}
 use Rattle.tags.specs.declared.Tag.{Tag}
 use Rattle.tags.specs.ContractDateTag.{contract_date}
-use Rattle.securities.specs.Securities.{security_of, type_of, Row, filled_rows, good_row}
+use Rattle.securities.specs.Securities.{security_of, type_of, filled_rows, good_row}
+use Rattle.securities.specs.declared.Row.{Row}
 use Rattle.securities.proofs.Sound.{good_row_lem, Sound}
-use Rattle.claims.specs.Amounts.{Part, of_interest, of_principal, cents_on, cents_for, factor_for, amount, is_tracked, outcome_of, is_late, release_of, is_early, slot_of, Parties, claim_on, fail_type, interim_type}
+use Rattle.claims.specs.Amounts.{Part, of_interest, of_principal, cents_on, cents_for, factor_for, amount, is_tracked, outcome_of, is_late, release_of, is_early, slot_of, claim_on, fail_type, interim_type}
+use Rattle.claims.specs.declared.Parties.{Parties}
 use Rattle.claims.specs.Fails.{is_mbs, eligible_in, waits, cut, eligible_now, eligible_before, eligible, is_interim, interim_in, interim, Due, due, fails, dues, transfer_parties, transfer_claims}
 use Rattle.claims.specs.Close.{crossed, tracking_type, loan_parties, loan_claim, tracking_claims, row_claims, close_claims, security_balances, lender_balances}
 use Rattle.claims.specs.Written.{Fits, AllFit}
@@ -117,7 +119,6 @@ module _ (calendar tables : List ℕ) (kept : Kept calendar) where
   fit_dues : (day n : ℕ) (x : Parties) (par claim_type : ℕ) (rows : List Row) → claim_type < 256 → n < 4294967296 → SmallParties x → par ≤ 9000000000
       → all (row_fits (last_open calendar)) rows ≡ true
       → AllFit (map (λ (d : Due). claim_on calendar tables day n x par d.claim_type d.row) (map (due claim_type) rows))
-  unfolding all
   fit_dues day n x par claim_type [] a b r c d = tt
   fit_dues day n x par claim_type (row ∷ rows) a b r c d = (
     fit_claim day n x par claim_type row a b r c (and_left _ _ d),
@@ -127,7 +128,7 @@ module _ (calendar tables : List ℕ) (kept : Kept calendar) where
   -- rows selected from sound ones fit
   fit_eligible : (limits : List ℕ) (day : ℕ) (t : Transfer) (tag : Tag) → Sound (last_open calendar) (filled_rows tables t.security)
       → all (row_fits (last_open calendar)) (eligible tables limits day t tag) ≡ true
-  unfolding eligible eligible_now eligible_in cut eligible_before all
+  unfolding eligible eligible_now eligible_in cut eligible_before
   fit_eligible limits day t tag s = on (before_memo day)
     where
       type : ℕ
@@ -161,7 +162,7 @@ module _ (calendar tables : List ℕ) (kept : Kept calendar) where
     where
       go : (b : Bool) → all (row_fits (last_open calendar)) (cond b (select (is_interim day) (filled_rows tables t.security)) []) ≡ true
       go true = all_select _ _ _ (sound_fit (last_open calendar) (filled_rows tables t.security) s)
-      go false = unfold all in refl
+      go false = refl
 
   pub fit_transfer : (limits : List ℕ) (day n : ℕ) (t : Transfer) (tag : Tag) → n < 4294967296 → SmallParties (transfer_parties t) → t.par ≤ 9000000000
       → Sound (last_open calendar) (filled_rows tables t.security) → AllFit (transfer_claims calendar tables limits day n t tag)
@@ -191,7 +192,7 @@ module _ (calendar tables : List ℕ) (kept : Kept calendar) where
 
   fit_rows : (rows : List Row) (f : Row → List Claim) → all (row_fits (last_open calendar)) rows ≡ true
       → ((row : Row) → row_fits (last_open calendar) row ≡ true → AllFit (f row)) → AllFit (each_of rows f)
-  unfolding each_of all
+  unfolding each_of
   fit_rows [] f r h = tt
   fit_rows (row ∷ rows) f r h =
       all_fit_append (f row) (each_of rows f) (h row (and_left _ _ r)) (fit_rows rows f (and_right (row_fits (last_open calendar) row) _ r) h)

@@ -14,7 +14,8 @@ use Rattle.lists.specs.All.{all}
 use Rattle.lists.specs.Fields.{part, part_take}
 use Rattle.lists.specs.Select.{rising, all_drop, rising_select}
 use Rattle.days.specs.Days.{last_open}
-use Rattle.securities.specs.Securities.{security_of, type_of, frequency_of, Row, row_of, rows_from, rows_of, is_empty, is_filled, filled_rows, good_rows, good_security, good_tables}
+use Rattle.securities.specs.Securities.{security_of, type_of, frequency_of, row_of, rows_from, rows_of, is_empty, is_filled, filled_rows, good_rows, good_security, good_tables}
+use Rattle.securities.specs.declared.Row.{Row}
 use Rattle.securities.proofs.Sound.{zero_at, zeros_empty}
 use Rattle.claims.specs.Reached.{row_at, date_at}
 
@@ -91,7 +92,7 @@ payment_word tables s i = row_word tables s i 2 (omega arith)
 -- ---- the numbers of rows rise
 
 rows_above : (n i k : ℕ) (words : List ℕ) → k < i → all (λ (other : Row). ltb k other.index) (rows_from n i words) ≡ true
-unfolding rows_from all row_of
+unfolding rows_from row_of
 rows_above zero i k words h = refl
 rows_above (suc n) i k words h = and_both (lt-ltb k i h) (rows_above n (suc i) k (drop 7 words) (omega arith))
 
@@ -108,7 +109,7 @@ rising_numbers tables s = rising_select (λ (row : Row). row.index) is_filled _ 
 
 -- empty rows keep the rules
 good_empty : (last a b : ℕ) (rows : List Row) → all is_empty rows ≡ true → good_rows last a b rows ≡ true
-unfolding good_rows all
+unfolding good_rows
 good_empty last a b [] t = refl
 good_empty last a b (row ∷ rows) t =
     rw (and_left (is_empty row) (all is_empty rows) t) (and_right (is_empty row) (all is_empty rows) t)

@@ -16,9 +16,11 @@ use Rattle.lists.specs.Select.{select, select_both, all_drop}
 use Rattle.lists.specs.Tabulate.{each, each_of}
 use Rattle.days.specs.Days.{open_after, last_open}
 use Rattle.records.specs.declared.Claim.{Claim}
-use Rattle.securities.specs.Securities.{Row, row_of, rows_from, rows_of, security_of, is_empty, is_filled, filled_rows, good_row, good_tables}
+use Rattle.securities.specs.Securities.{row_of, rows_from, rows_of, security_of, is_empty, is_filled, filled_rows, good_row, good_tables}
+use Rattle.securities.specs.declared.Row.{Row}
 use Rattle.securities.proofs.Sound.{Good, good_row_lem, sound_rows}
-use Rattle.claims.specs.Amounts.{Parties, claim_on}
+use Rattle.claims.specs.Amounts.{claim_on}
+use Rattle.claims.specs.declared.Parties.{Parties}
 use Rattle.claims.specs.Close.{crosses, crossed, tracking_type, loan_claim, security_balances, lender_balances, tracking_claims, row_claims, close_claims}
 use Rattle.claims.specs.Passes.{each_few}
 use Rattle.claims.proofs.Runs.{each_select, each_agree}
@@ -57,7 +59,6 @@ unfolding small
 small_at lent b t h = leb-true _ 9000000000 (all_at small lent 0 t b h)
 
 all_take : {A : Type 0} (q : A → Bool) (k : ℕ) (xs : List A) → all q xs ≡ true → all q (take k xs) ≡ true
-unfolding all
 all_take q zero xs t = refl
 all_take q (suc k) [] t = refl
 all_take q (suc k) (x ∷ xs) t = rw (and_left (q x) (all q xs) t) (all_take q k xs (and_right (q x) (all q xs) t))
@@ -210,7 +211,7 @@ security_length tables s e h = part_length (114 * s) 114 tables (omega arith)
 -- what all chosen elements pass, an element that is chosen passes
 all_chosen : {A : Type 0} (p q : A → Bool) (xs : List A) (d : A) → all p (select q xs) ≡ true → (k : ℕ) → k < length xs
     → q (get_or xs k d) ≡ true → p (get_or xs k d) ≡ true
-unfolding all select
+unfolding select
 all_chosen p q [] d t k h e = absurd (omega arith)
 all_chosen p q (x ∷ xs) d t zero h e = and_left (p x) (all p (select q xs)) (rw e at t)
 all_chosen p q (x ∷ xs) d t (suc k) h e = go (q x) t (λ u. all_chosen p q xs d u k (omega arith) e)

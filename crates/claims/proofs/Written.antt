@@ -7,8 +7,7 @@ use lib.ListN.{length, drop, length-append, length-drop}
 use lib.Seq.{drop_at}
 use Rattle.lists.specs.Tests.{cond_true}
 use Rattle.records.specs.declared.Claim.{Claim}
-use Rattle.records.specs.declared.ReadClaim.{ReadClaim}
-use Rattle.records.specs.declared.ReadClaim.TheVariants.{Is, Refused}
+use Rattle.std.proofs.Common.{Option, Some, None}
 use Rattle.records.proofs.RoundTrips.{claim_read_written}
 use Rattle.claims.specs.Written.{Fits, AllFit, claim_bytes, bytes_of_all, written, read_claim, readings, AllRead}
 use Rattle.claims.specs.Passes.{claim_length}
@@ -20,13 +19,13 @@ all_fit_append (x ∷ xs) ys h k = (h.0, all_fit_append xs ys h.1 k)
 
 -- ---- read back
 
-read_claim_lem : (c : Claim) (rest : List ℕ) → Fits c → read_claim (claim_bytes c ++ rest) ≡ Is c
+read_claim_lem : (c : Claim) (rest : List ℕ) → Fits c → read_claim (claim_bytes c ++ rest) ≡ Some c
 unfolding read_claim claim_bytes
 read_claim_lem c rest f =
     let k = claim_read_written c rest f in
-    cond_true _ Refused k.whole ∙ ap Is k.fields
+    cond_true _ None k.whole ∙ ap Some k.fields
 
-readings_of : (cs : List Claim) (rest : List ℕ) → AllFit cs → readings (length cs) (bytes_of_all cs ++ rest) ≡ map Is cs
+readings_of : (cs : List Claim) (rest : List ℕ) → AllFit cs → readings (length cs) (bytes_of_all cs ++ rest) ≡ map Some cs
 unfolding readings bytes_of_all
 readings_of [] rest h = refl
 readings_of (c ∷ cs) rest h =
@@ -34,18 +33,18 @@ readings_of (c ∷ cs) rest h =
     (ap₂ ◌∷◌ (read_claim_lem c (bytes_of_all cs ++ rest) h.0)
     (rw (drop_at (claim_bytes c) (bytes_of_all cs ++ rest) 35 (claim_length c)) (readings_of cs rest h.1)))
 
-pub readings_written : (cs : List Claim) (buffer : List ℕ) → AllFit cs → readings (length cs) (written cs buffer) ≡ map Is cs
+pub readings_written : (cs : List Claim) (buffer : List ℕ) → AllFit cs → readings (length cs) (written cs buffer) ≡ map Some cs
 unfolding written
 readings_written cs buffer h = readings_of cs (drop (35 * length cs) buffer) h
 
-pub all_read : (cs : List Claim) → AllRead (map Is cs)
+pub all_read : (cs : List Claim) → AllRead (map Some cs)
 all_read [] = tt
 all_read (c ∷ cs) = all_read cs
 
-pub all_read_append : (rs ss : List ReadClaim) → AllRead rs → AllRead ss → AllRead (rs ++ ss)
+pub all_read_append : (rs ss : List (Option Claim)) → AllRead rs → AllRead ss → AllRead (rs ++ ss)
 all_read_append [] ss h k = k
-all_read_append (Refused ∷ rs) ss h k = absurd h
-all_read_append (Is c ∷ rs) ss h k = all_read_append rs ss h k
+all_read_append (None ∷ rs) ss h k = absurd h
+all_read_append (Some c ∷ rs) ss h k = all_read_append rs ss h k
 
 -- ---- the buffer
 

@@ -2,7 +2,9 @@
 use Rattle.std.specs.Prelude.{Bool, cond, ◌&&◌, ◌||◌, List, ℕ, ◌+◌, ◌*◌, ◌/◌, eqb, leb}
 use Rattle.days.specs.Days.{bit_on, open_after, open_from}
 use Rattle.records.specs.declared.Claim.{Claim}
-use Rattle.securities.specs.Securities.{security_of, type_of, Row}
+use Rattle.securities.specs.Securities.{security_of, type_of}
+use Rattle.securities.specs.declared.Row.{Row}
+use Rattle.claims.specs.declared.Parties.{Parties}
 
 -- ---- amounts
 
@@ -76,12 +78,6 @@ slot_of type claim_type day row outcome =
     cond (eqb outcome 0) (cond (is_late claim_type day row) 2 (cond (is_early type) 1 3)) 0
 
 -- ---- a claim
-
--- Who pays whom, in one security.
-pub record Parties : Type 0 where
-  pub security : ℕ
-  pub payee : ℕ
-  pub payer : ℕ
 
 -- The claim of a type on a row, made on a day for a par between two accounts, with a transfer number.
 unfoldable pub claim_on : List ℕ → List ℕ → ℕ → ℕ → Parties → ℕ → ℕ → Row → Claim

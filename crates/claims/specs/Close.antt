@@ -5,8 +5,10 @@ use Rattle.lists.specs.Select.{select}
 use Rattle.lists.specs.Tabulate.{each, each_of}
 use Rattle.days.specs.Days.{open_after}
 use Rattle.records.specs.declared.Claim.{Claim}
-use Rattle.securities.specs.Securities.{security_count, Row, filled_rows}
-use Rattle.claims.specs.Amounts.{lending_type, Parties, claim_on}
+use Rattle.securities.specs.Securities.{security_count, filled_rows}
+use Rattle.securities.specs.declared.Row.{Row}
+use Rattle.claims.specs.Amounts.{lending_type, claim_on}
+use Rattle.claims.specs.declared.Parties.{Parties}
 
 abbrev pub account_count : ℕ
 account_count = 16

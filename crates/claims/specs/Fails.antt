@@ -6,11 +6,13 @@ use Rattle.days.specs.MemoDay.{before_memo, six_months_before}
 use Rattle.records.specs.declared.Claim.{Claim}
 use Rattle.records.specs.declared.Transfer.{Transfer}
 use Rattle.records.specs.MessageRecords.{first_line, second_line}
-use Rattle.securities.specs.Securities.{security_of, type_of, frequency_of, Row, filled_rows}
+use Rattle.securities.specs.Securities.{security_of, type_of, frequency_of, filled_rows}
+use Rattle.securities.specs.declared.Row.{Row}
 unfoldable pub use Rattle.securities.specs.Lent.{is_mbs, maximum_for, maximum_of}
 use Rattle.tags.specs.declared.Tag.{Tag}
 use Rattle.tags.specs.ContractDateTag.{tag_of, on_day, tagged, contract_date}
-use Rattle.claims.specs.Amounts.{fail_type, interim_type, Parties, claim_on}
+use Rattle.claims.specs.Amounts.{fail_type, interim_type, claim_on}
+use Rattle.claims.specs.declared.Parties.{Parties}
 
 -- The tag of a transfer message: that of its two free text lines.
 unfoldable pub message_tag : List ℕ → Tag

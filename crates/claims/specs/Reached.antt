@@ -4,14 +4,12 @@ use Rattle.std.specs.Prelude.{◌≡◌, Bool, cond, not, ◌&&◌, List, [], �
 use Rattle.lists.specs.Fields.{part}
 use Rattle.lists.specs.Select.{first_key}
 use Rattle.records.specs.declared.Transfer.{Transfer}
-use Rattle.securities.specs.Securities.{security_of, type_of, Row, row_of, rows_of}
+use Rattle.securities.specs.Securities.{security_of, type_of, row_of, rows_of}
+use Rattle.securities.specs.declared.Row.{Row}
+unfoldable pub use Rattle.securities.specs.Securities.{row_at}
 use Rattle.claims.specs.Fails.{is_mbs, waits}
 
 -- ---- rows
-
--- The row with a number of a security, in its place in the tables.
-unfoldable pub row_at : List ℕ → ℕ → ℕ → Row
-row_at tables s i = row_of i (part (114 * s + 2 + 7 * i) 7 tables)
 
 -- How many elements, from the first on, pass a test.
 unfoldable pub leading : {A : Type 0} → (A → Bool) → List A → ℕ

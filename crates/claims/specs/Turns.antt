@@ -4,7 +4,8 @@ use Rattle.lists.specs.Fields.{part}
 use Rattle.lists.specs.Tabulate.{each, each_of}
 use Rattle.days.specs.Days.{open_after}
 use Rattle.records.specs.declared.Claim.{Claim}
-use Rattle.securities.specs.Securities.{Row, security_of, good_tables}
+use Rattle.securities.specs.Securities.{security_of, good_tables}
+use Rattle.securities.specs.declared.Row.{Row}
 use Rattle.claims.specs.Close.{crosses, crossed, loan_parties, loan_claim, row_claims}
 
 -- A balance that is not too large.

@@ -2,8 +2,7 @@
 use Rattle.std.specs.Prelude.{cond, List, [], ◌∷◌, ◌++◌, ℕ, zero, suc, ◌*◌, length, drop}
 use Rattle.lists.specs.Fields.{Fit}
 use Rattle.records.specs.declared.Claim.{Claim}
-use Rattle.records.specs.declared.ReadClaim.{ReadClaim}
-use Rattle.records.specs.declared.ReadClaim.TheVariants.{Is, Refused}
+use Rattle.std.specs.Prelude.{Option, Some, None}
 use Rattle.records.specs.MessageRecords.{claim_kind, claim_values, claim_of, record_bytes, reads}
 
 -- The bytes of a claim record: 35.
@@ -31,16 +30,16 @@ unfoldable pub written : List Claim → List ℕ → List ℕ
 written claims buffer = bytes_of_all claims ++ drop (claim_size * length claims) buffer
 
 -- What reading a claim at the start of bytes answers.
-unfoldable pub read_claim : List ℕ → ReadClaim
-read_claim s = cond (reads claim_kind s) (Is (claim_of s)) Refused
+unfoldable pub read_claim : List ℕ → Option Claim
+read_claim s = cond (reads claim_kind s) (Some (claim_of s)) None
 
 -- The first n records of a buffer, read.
-unfoldable pub readings : ℕ → List ℕ → List ReadClaim
+unfoldable pub readings : ℕ → List ℕ → List (Option Claim)
 readings zero s = []
 readings (suc n) s = read_claim s ∷ readings n (drop claim_size s)
 
 -- Each record reads, none is refused.
-abbrev pub AllRead : List ReadClaim → Type 0
+abbrev pub AllRead : List (Option Claim) → Type 0
 AllRead [] = Unit {0}
-AllRead (Refused ∷ rs) = ⊥
-AllRead (Is c ∷ rs) = AllRead rs
+AllRead (None ∷ rs) = ⊥
+AllRead (Some c ∷ rs) = AllRead rs

@@ -14,7 +14,8 @@ use Rattle.days.specs.declared.Date.{Date}
 use Rattle.days.specs.MemoDay.{before_memo}
 use Rattle.records.specs.declared.Claim.{Claim}
 use Rattle.records.specs.declared.Transfer.{Transfer}
-use Rattle.securities.specs.Securities.{security_of, type_of, Row, rows_of, filled_rows, good_tables}
+use Rattle.securities.specs.Securities.{security_of, type_of, rows_of, filled_rows, good_tables}
+use Rattle.securities.specs.declared.Row.{Row}
 use Rattle.tags.specs.declared.Tag.{Tag}
 use Rattle.tags.specs.declared.Tag.TheVariants.{On}
 use Rattle.tags.specs.ContractDateTag.{tagged, contract_date}

@@ -11,7 +11,8 @@ use Rattle.lists.specs.Select.{select}
 use Rattle.lists.specs.Tabulate.{each}
 use Rattle.records.specs.declared.Claim.{Claim}
 use Rattle.records.specs.declared.Transfer.{Transfer}
-use Rattle.securities.specs.Securities.{security_of, Row, row_of, rows_of}
+use Rattle.securities.specs.Securities.{security_of, row_of, rows_of}
+use Rattle.securities.specs.declared.Row.{Row}
 use Rattle.claims.specs.Amounts.{fail_type, interim_type, claim_on}
 use Rattle.claims.specs.Fails.{transfer_parties}
 use Rattle.claims.specs.Reached.{row_at, is_kept_by}

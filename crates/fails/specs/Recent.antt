@@ -5,7 +5,7 @@ use Rattle.lists.specs.Tabulate.{each}
 use Rattle.days.specs.MemoDay.{before_memo, six_months_before}
 use Rattle.records.specs.declared.Claim.{Claim}
 use Rattle.records.specs.declared.Transfer.{Transfer}
-use Rattle.securities.specs.Securities.{Row}
+use Rattle.securities.specs.declared.Row.{Row}
 use Rattle.tags.specs.declared.Tag.{Tag}
 use Rattle.tags.specs.ContractDateTag.{tagged, contract_date}
 use Rattle.claims.specs.Amounts.{fail_type, interim_type, claim_on}

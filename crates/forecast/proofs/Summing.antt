@@ -12,8 +12,7 @@ use borrow.Author.Tests.{leb-true, leb-false}
 use Rattle.lists.specs.All.{all}
 use Rattle.lists.specs.Sums.{sum}
 use Rattle.records.specs.declared.Claim.{Claim}
-use Rattle.records.specs.declared.ReadClaim.{ReadClaim}
-use Rattle.records.specs.declared.ReadClaim.TheVariants.{Is, Refused}
+use Rattle.std.proofs.Common.{Option, Some, None}
 use Rattle.records.specs.MessageRecords.{claim_kind, reading, claim_answer}
 use Rattle.records.proofs.Answers.{claim_is, claim_not}
 use Rattle.claims.specs.Written.{read_claim, readings}
@@ -29,9 +28,9 @@ sums_same sums b p r = λ i. record { bad = b i; pay = p i; receive = r i }
 
 -- ---- one record
 
-module _ (sums : Sums) (s : List ℕ) (account date : ℕ) {r : ReadClaim} (e : claim_answer r ≡ reading claim_kind s) where
+module _ (sums : Sums) (s : List ℕ) (account date : ℕ) {r : Option Claim} (e : claim_answer r ≡ reading claim_kind s) where
   -- what is no record is bad and adds nothing
-  pub with_none : sums.pay ≤ exact_limit + 1 → sums.receive ≤ exact_limit + 1 → r ≡ Refused
+  pub with_none : sums.pay ≤ exact_limit + 1 → sums.receive ≤ exact_limit + 1 → r ≡ None
       → record { bad = true; pay = sums.pay; receive = sums.receive } ≡ with_read sums (read_claim s) account date
   unfolding read_claim with_read is_good pay_on receive_on capped
   with_none h k q =
@@ -39,7 +38,7 @@ module _ (sums : Sums) (s : List ℕ) (account date : ℕ) {r : ReadClaim} (e : 
       (sums_same (record { bad = true; pay = sums.pay; receive = sums.receive }) (sym (or-true sums.bad)) (omega arith) (omega arith))
 
   -- a record adds its claim to either sum
-  pub with_read_lem : {c : Claim} {good bad : Bool} {pay receive : ℕ} → r ≡ Is c → good ≡ good_parties c → bad ≡ (sums.bad || not good)
+  pub with_read_lem : {c : Claim} {good bad : Bool} {pay receive : ℕ} → r ≡ Some c → good ≡ good_parties c → bad ≡ (sums.bad || not good)
       → pay ≡ capped (sums.pay + cond (counts date c && eqb c.payer account) (cents_of c) 0)
       → receive ≡ capped (sums.receive + cond (counts date c && eqb c.payee account) (cents_of c) 0)
       → record { bad = bad; pay = pay; receive = receive } ≡ with_read sums (read_claim s) account date
@@ -52,7 +51,7 @@ module _ (sums : Sums) (s : List ℕ) (account date : ℕ) {r : ReadClaim} (e : 
 -- ---- the records that are left
 
 -- the records from place at on
-unfoldable pub left : List ℕ → ℕ → List ReadClaim
+unfoldable pub left : List ℕ → ℕ → List (Option Claim)
 left s at = readings (record_count (length s - at)) (drop at s)
 
 left_all : (s : List ℕ) → left s 0 ≡ records_of s

@@ -1,6 +1,6 @@
 -- The sums of a forecast as a loop over the records adds them up: held in 64 bits, since what is past the limit is past it however far.
 use Rattle.std.specs.Prelude.{not, ◌||◌, List, ℕ, ◌+◌, min}
-use Rattle.records.specs.declared.ReadClaim.{ReadClaim}
+use Rattle.std.specs.Prelude.{Option, Some, None}
 use Rattle.forecast.specs.declared.Sums.{Sums}
 use Rattle.cash.specs.Cash.{is_good, bad_run, pay_on, receive_on, cents_to_pay, cents_to_receive, exact_limit}
 
@@ -9,7 +9,7 @@ unfoldable pub capped : ℕ → ℕ
 capped n = min (exact_limit + 1) n
 
 -- The sums with one record more.
-unfoldable pub with_read : Sums → ReadClaim → ℕ → ℕ → Sums
+unfoldable pub with_read : Sums → Option Claim → ℕ → ℕ → Sums
 with_read sums r account date =
     record {
       bad = sums.bad || not (is_good r);

@@ -6,8 +6,9 @@ use mathlib.Core.List.{List, [], ◌∷◌, ◌++◌}
 use Prim.Native.Nat.{ℕ, zero, suc, ◌+◌}
 use native.Mathlib.Nat.{zero-add}
 use native.Mathlib.Omega.{arith}
-use Rattle.securities.specs.Securities.{Row}
-use Rattle.claims.specs.Amounts.{Part, Parties}
+use Rattle.securities.specs.declared.Row.{Row}
+use Rattle.claims.specs.Amounts.{Part}
+use Rattle.claims.specs.declared.Parties.{Parties}
 use Rattle.book.specs.declared.Book.{Book}
 use Rattle.history.specs.Calls.{Call}
 use Rattle.history.specs.Causes.{number_for, opening_number}

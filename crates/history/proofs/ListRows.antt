@@ -7,7 +7,8 @@ use Prim.Native.Nat.{ℕ}
 use lib.Dec.{eqb}
 use lib.ListN.{length, replicate, set}
 use Rattle.days.specs.Weekdays.{weekdays}
-use Rattle.claims.specs.Amounts.{of_interest, Parties}
+use Rattle.claims.specs.Amounts.{of_interest}
+use Rattle.claims.specs.declared.Parties.{Parties}
 use Rattle.claims.proofs.InterimRows.{three_rows}
 use Rattle.claims.proofs.DelayRows.{delays}
 use Rattle.history.specs.Calls.{Call, transfer, close}

@@ -8,7 +8,7 @@ use native.Mathlib.Decide.{dec_lt}
 use Rattle.lists.specs.Sums.{sum}
 use Rattle.days.specs.Days.{open_after}
 use Rattle.days.proofs.OpenDays.{open_date, after_later}
-use Rattle.securities.specs.Securities.{Row}
+use Rattle.securities.specs.declared.Row.{Row}
 use Rattle.claims.specs.Close.{crosses}
 use Rattle.claims.proofs.Crossed.{crosses_words}
 use Rattle.book.proofs.Judged.{kept}

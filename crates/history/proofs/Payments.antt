@@ -14,11 +14,12 @@ use borrow.Author.Tests.{ltb-false}
 use Rattle.lists.specs.Sums.{sum, sum_one, sum_append, sum_map, sum_equal, sum_zero, sum_plus, sum_cond, cond_zero}
 use Rattle.lists.specs.Tabulate.{each, each_of, sum_each_of, sum_each_none, sum_each_one}
 use Rattle.records.specs.declared.Claim.{Claim}
-use Rattle.records.specs.declared.ReadClaim.TheVariants.{Is}
+use Rattle.std.proofs.Common.{Option, Some, None}
 use Rattle.records.specs.MessageRecords.{transfer_of}
-use Rattle.securities.specs.Securities.{Row}
+use Rattle.securities.specs.declared.Row.{Row}
 use Rattle.tags.specs.ContractDateTag.{tagged}
-use Rattle.claims.specs.Amounts.{Part, of_interest, of_principal, cents_on, cents_for, factor_for, amount, fail_type, interim_type, lending_type, repo_type, Parties, claim_on}
+use Rattle.claims.specs.Amounts.{Part, of_interest, of_principal, cents_on, cents_for, factor_for, amount, fail_type, interim_type, lending_type, repo_type, claim_on}
+use Rattle.claims.specs.declared.Parties.{Parties}
 use Rattle.claims.specs.Fails.{contract_tag, eligible, interim, Due, due, fails, dues, transfer_parties, transfer_claims}
 use Rattle.claims.specs.Close.{crossed, tracking_type, loan_parties, loan_claim, security_balances, lender_balances, tracking_claims, row_claims, close_claims}
 use Rattle.claims.proofs.Crossed.{balance_word}
@@ -109,9 +110,9 @@ module _ (calendar tables : List ℕ) (part : Part) (claim_test : ℕ → ℕ �
   abbrev pub pays : List Claim → ℕ
   pays cs = sum pays_by cs
 
-  pub paid_claims : (cs : List Claim) → paid part claim_test (map Is cs) x ≡ pays cs
+  pub paid_claims : (cs : List Claim) → paid part claim_test (map Some cs) x ≡ pays cs
   unfolding paid paid_in
-  paid_claims cs = sum_map (paid_in part claim_test x) Is cs
+  paid_claims cs = sum_map (paid_in part claim_test x) Some cs
 
   pays_none : pays [] ≡ 0
   unfolding sum

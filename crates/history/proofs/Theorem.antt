@@ -8,11 +8,13 @@ use native.Mathlib.Nat.{zero-add}
 use native.Mathlib.Omega.{arith}
 use lib.ListN.{length, get_or, replicate, length-replicate, get_or-replicate}
 use Rattle.lists.specs.Sums.{sum, sum_append}
-use Rattle.records.specs.declared.ReadClaim.{ReadClaim}
+use Rattle.std.proofs.Common.{Option, Some, None}
 use Rattle.records.specs.MessageRecords.{transfer_of}
-use Rattle.securities.specs.Securities.{Row, good_tables}
+use Rattle.securities.specs.Securities.{good_tables}
+use Rattle.securities.specs.declared.Row.{Row}
 use Rattle.securities.proofs.Sound.{sound_rows}
-use Rattle.claims.specs.Amounts.{Part, Parties}
+use Rattle.claims.specs.Amounts.{Part}
+use Rattle.claims.specs.declared.Parties.{Parties}
 use Rattle.claims.specs.Fails.{contract_tag, transfer_parties}
 use Rattle.claims.specs.Close.{crossed, close_claims}
 use Rattle.claims.specs.Written.{AllFit, readings, AllRead}
@@ -155,7 +157,7 @@ module _ (calendar tables : List ℕ) where
         )
     paid_step t call (suc n) h e = unfold readings paid sum in zero-add _
 
-    paid_append : (rs ss : List ReadClaim) → paid part claim_test (rs ++ ss) x ≡ paid part claim_test rs x + paid part claim_test ss x
+    paid_append : (rs ss : List (Option Claim)) → paid part claim_test (rs ++ ss) x ≡ paid part claim_test rs x + paid part claim_test ss x
     unfolding paid
     paid_append rs ss = sum_append (paid_in part claim_test x) rs ss
 

@@ -7,8 +7,9 @@
 -- rows, so a book that lives for years gets new tables. `owed` and `CrossedOnce` of a whole history speak of one calendar and tables; over
 -- such a change it is each period that owes and crosses by its own.
 use Rattle.std.specs.Prelude.{◌≡◌, Bool, List, [], ◌∷◌, ◌++◌, ℕ, ◌+◌, ◌*◌, ◌≤◌, ◌<◌, get_or}
-use Rattle.securities.specs.Securities.{Row}
-use Rattle.claims.specs.Amounts.{Part, Parties}
+use Rattle.securities.specs.declared.Row.{Row}
+use Rattle.claims.specs.Amounts.{Part}
+use Rattle.claims.specs.declared.Parties.{Parties}
 use Rattle.claims.specs.Written.{AllRead}
 use Rattle.book.specs.declared.Book.{Book}
 use Rattle.book.specs.Book.{Position, InRange}

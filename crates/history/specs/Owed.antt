@@ -2,9 +2,10 @@
 use Rattle.std.specs.Prelude.{Bool, cond, ◌&&◌, List, [], ◌∷◌, ℕ, ◌+◌, eqb}
 use Rattle.lists.specs.Sums.{sum}
 use Rattle.records.specs.MessageRecords.{transfer_of}
-use Rattle.securities.specs.Securities.{Row}
+use Rattle.securities.specs.declared.Row.{Row}
 use Rattle.tags.specs.ContractDateTag.{tagged}
-use Rattle.claims.specs.Amounts.{Part, amount, fail_type, interim_type, lending_type, repo_type, Parties}
+use Rattle.claims.specs.Amounts.{Part, amount, fail_type, interim_type, lending_type, repo_type}
+use Rattle.claims.specs.declared.Parties.{Parties}
 use Rattle.claims.specs.Fails.{contract_tag, eligible, interim}
 use Rattle.claims.specs.Close.{crossed}
 use Rattle.history.specs.Calls.{Call, transfer, close}

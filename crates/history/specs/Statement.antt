@@ -13,12 +13,12 @@ use Rattle.lists.specs.Select.{rising}
 use Rattle.lists.specs.Sums.{sum}
 use Rattle.days.specs.Days.{open_after}
 use Rattle.records.specs.declared.Claim.{Claim}
-use Rattle.records.specs.declared.ReadClaim.{ReadClaim}
-use Rattle.records.specs.declared.ReadClaim.TheVariants.{Is, Refused}
+use Rattle.std.specs.Prelude.{Option, Some, None}
 use Rattle.records.specs.declared.Transfer.{Transfer}
-use Rattle.securities.specs.Securities.{Row}
+use Rattle.securities.specs.declared.Row.{Row}
 use Rattle.tags.specs.declared.Tag.{Tag}
-use Rattle.claims.specs.Amounts.{Part, of_interest, of_principal, Parties}
+use Rattle.claims.specs.Amounts.{Part, of_interest, of_principal}
+use Rattle.claims.specs.declared.Parties.{Parties}
 use Rattle.claims.specs.Fails.{dues}
 use Rattle.claims.specs.Close.{crosses, crossed}
 use Rattle.claims.specs.Written.{claim_size, readings, AllRead}
@@ -32,7 +32,7 @@ use Rattle.history.specs.Owed.{owed}
 -- ---- what the records pay
 
 -- The records that the calls wrote, read from their claim buffers.
-unfoldable pub records_in : List Answer → List ReadClaim
+unfoldable pub records_in : List Answer → List (Option Claim)
 records_in [] = []
 records_in (a ∷ answers) = readings a.claims a.buffer ++ records_in answers
 
@@ -46,12 +46,12 @@ unfoldable pub counts : (ℕ → ℕ → Bool) → Parties → Claim → Bool
 counts claim_test x c =
     (eqb c.security x.security && eqb c.payee x.payee && eqb c.payer x.payer) && claim_test c.claim_type c.row
 
-unfoldable pub paid_in : Part → (ℕ → ℕ → Bool) → Parties → ReadClaim → ℕ
-paid_in part claim_test x Refused = 0
-paid_in part claim_test x (Is c) = cond (counts claim_test x c) (cents_in part c) 0
+unfoldable pub paid_in : Part → (ℕ → ℕ → Bool) → Parties → Option Claim → ℕ
+paid_in part claim_test x None = 0
+paid_in part claim_test x (Some c) = cond (counts claim_test x c) (cents_in part c) 0
 
 -- The cents of a part that the records have the payer pay the payee, settled and noticed together.
-unfoldable pub paid : Part → (ℕ → ℕ → Bool) → List ReadClaim → Parties → ℕ
+unfoldable pub paid : Part → (ℕ → ℕ → Bool) → List (Option Claim) → Parties → ℕ
 paid part claim_test rs x = sum (paid_in part claim_test x) rs
 
 -- The claims of a type on a row, those on a row, and all.

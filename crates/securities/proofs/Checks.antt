@@ -13,7 +13,8 @@ use borrow.Author.Tests.{le-leb, lt-ltb, ne_eqb}
 use Rattle.lists.specs.Tests.{below, cond_true, cond_false}
 use Rattle.lists.specs.All.{all}
 use Rattle.days.specs.Days.{is_date, last_open}
-use Rattle.securities.specs.Securities.{security_of, type_of, frequency_of, Row, row_of, row_at, rows_from, rows_of, is_empty, good_row, good_rows, good_security, good_tables}
+use Rattle.securities.specs.Securities.{security_of, type_of, frequency_of, row_of, row_at, rows_from, rows_of, is_empty, good_row, good_rows, good_security, good_tables}
+use Rattle.securities.specs.declared.Row.{Row}
 
 -- ---- a test that fails
 

@@ -14,7 +14,8 @@ use Rattle.lists.specs.All.{all, all_at, all_weaken}
 use Rattle.lists.specs.Select.{select, rising, all_select, all_drop}
 use Rattle.days.specs.Days.{is_date, last_open}
 use Rattle.securities.specs.Lent.{from_one_to, good_limits, good_pieces, piece_of, is_mbs, maximum_for, maximum_of}
-use Rattle.securities.specs.Securities.{security_of, type_of, frequency_of, Row, row_of, rows_from, rows_of, is_empty, is_filled, filled_rows, good_row, good_rows, good_security, good_tables}
+use Rattle.securities.specs.Securities.{security_of, type_of, frequency_of, row_of, rows_from, rows_of, is_empty, is_filled, filled_rows, good_row, good_rows, good_security, good_tables}
+use Rattle.securities.specs.declared.Row.{Row}
 
 -- ---- a row's rules, each by itself
 

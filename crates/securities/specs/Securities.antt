@@ -5,7 +5,7 @@ use Rattle.lists.specs.All.{all}
 use Rattle.lists.specs.Fields.{part}
 use Rattle.lists.specs.Select.{select}
 use Rattle.days.specs.Days.{is_date, last_open}
-pub use Rattle.securities.specs.declared.Row.{Row}
+use Rattle.securities.specs.declared.Row.{Row}
 
 -- ---- the words
 

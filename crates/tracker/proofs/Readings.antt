@@ -11,14 +11,7 @@ use Rattle.lists.specs.Fields.{part}
 use Rattle.records.specs.declared.Transfer.{Transfer}
 use Rattle.records.specs.declared.Claim.{Claim}
 use Rattle.records.specs.declared.Answer.{Answer}
-use Rattle.records.specs.declared.ReadTransfer.{ReadTransfer}
-use Rattle.records.specs.declared.ReadTransfer.TheVariants as transfer
-use Rattle.records.specs.declared.ReadClose.{ReadClose}
-use Rattle.records.specs.declared.ReadClose.TheVariants as close
-use Rattle.records.specs.declared.ReadClaim.{ReadClaim}
-use Rattle.records.specs.declared.ReadClaim.TheVariants as claim
-use Rattle.records.specs.declared.ReadAnswer.{ReadAnswer}
-use Rattle.records.specs.declared.ReadAnswer.TheVariants as answer
+use Rattle.std.proofs.Common.{Option, Some, None}
 use Rattle.records.specs.MessageRecords.{Reading, transfer_kind, close_kind, claim_kind, answer_kind, first_line, second_line}
 use Rattle.records.specs.MessageRecords.{reading, transfer_answer, close_answer, claim_answer, answer_answer}
 use Rattle.records.proofs.Answers.{transfer_is, transfer_not, claim_is, claim_not, answer_is, answer_not}
@@ -56,7 +49,7 @@ copied_end {s} {line} {at} {i} h k =
 -- ---- the four kinds
 
 module _ (s : List ℕ) where
-  pub transfer_read : {r : ReadTransfer} {t : Transfer} {a b : List ℕ} → transfer_answer r ≡ reading transfer_kind s → r ≡ transfer.Is t
+  pub transfer_read : {r : Option Transfer} {t : Transfer} {a b : List ℕ} → transfer_answer r ≡ reading transfer_kind s → r ≡ Some t
       → a ≡ part 13 64 s → b ≡ part 77 64 s
       → ◌≡◌ {A = TransferReading} (record { number = 0; transfer = t; first_line = a; second_line = b }) (transfer_reading s)
   unfolding transfer_reading first_line second_line
@@ -64,7 +57,7 @@ module _ (s : List ℕ) where
       let f = transfer_is s e q in
       (λ i. record { number = 0; transfer = f.same i; first_line = x i; second_line = y i }) ∙ sym (cond_true _ _ f.whole)
 
-  pub transfer_refused : {r : ReadTransfer} → transfer_answer r ≡ reading transfer_kind s → r ≡ transfer.Refused
+  pub transfer_refused : {r : Option Transfer} → transfer_answer r ≡ reading transfer_kind s → r ≡ None
       → ◌≡◌ {A = TransferReading}
       (record {
         number = 5;
@@ -75,22 +68,22 @@ module _ (s : List ℕ) where
   unfolding transfer_reading no_line
   transfer_refused e q = sym (cond_false _ _ (transfer_not s e q))
 
-  pub close_read : {r : ReadClose} → close_answer r ≡ reading close_kind s → r ≡ close.Is → ◌≡◌ {A = ℕ} 0 (reading close_kind s).number
+  pub close_read : {r : ReadClose} → close_answer r ≡ reading close_kind s → r ≡ Some → ◌≡◌ {A = ℕ} 0 (reading close_kind s).number
   unfolding close_answer
   close_read e q = ap (λ (x : Reading). x.number) (sym (ap close_answer q) ∙ e)
 
-  pub close_refused : {r : ReadClose} → close_answer r ≡ reading close_kind s → r ≡ close.Refused → ◌≡◌ {A = ℕ} 5 (reading close_kind s).number
+  pub close_refused : {r : ReadClose} → close_answer r ≡ reading close_kind s → r ≡ None → ◌≡◌ {A = ℕ} 5 (reading close_kind s).number
   unfolding close_answer
   close_refused e q = ap (λ (x : Reading). x.number) (sym (ap close_answer q) ∙ e)
 
-  pub claim_read : {r : ReadClaim} {c : Claim} → claim_answer r ≡ reading claim_kind s → r ≡ claim.Is c
+  pub claim_read : {r : Option Claim} {c : Claim} → claim_answer r ≡ reading claim_kind s → r ≡ Some c
       → ◌≡◌ {A = ClaimReading} (record { number = 0; claim = c }) (claim_reading s)
   unfolding claim_reading
   claim_read {r} {c} e q =
       let f = claim_is s e q in
       (λ i. record { number = 0; claim = f.same i }) ∙ sym (cond_true _ _ f.whole)
 
-  pub claim_refused : {r : ReadClaim} → claim_answer r ≡ reading claim_kind s → r ≡ claim.Refused
+  pub claim_refused : {r : Option Claim} → claim_answer r ≡ reading claim_kind s → r ≡ None
       → ◌≡◌ {A = ClaimReading}
       (record {
         number = 5;
@@ -111,14 +104,14 @@ module _ (s : List ℕ) where
   unfolding claim_reading
   claim_refused e q = sym (cond_false _ _ (claim_not s e q))
 
-  pub answer_read : {r : ReadAnswer} {a : Answer} → answer_answer r ≡ reading answer_kind s → r ≡ answer.Is a
+  pub answer_read : {r : Option Answer} {a : Answer} → answer_answer r ≡ reading answer_kind s → r ≡ Some a
       → ◌≡◌ {A = AnswerReading} (record { number = 0; answer = a }) (answer_reading s)
   unfolding answer_reading
   answer_read {r} {a} e q =
       let f = answer_is s e q in
       (λ i. record { number = 0; answer = f.same i }) ∙ sym (cond_true _ _ f.whole)
 
-  pub answer_refused : {r : ReadAnswer} → answer_answer r ≡ reading answer_kind s → r ≡ answer.Refused
+  pub answer_refused : {r : Option Answer} → answer_answer r ≡ reading answer_kind s → r ≡ None
       → ◌≡◌ {A = AnswerReading} (record { number = 5; answer = record { number = 0 } }) (answer_reading s)
   unfolding answer_reading
   answer_refused e q = sym (cond_false _ _ (answer_not s e q))
