@@ -4,10 +4,13 @@
 #![tactic(auto)]
 
 ghost use Rattle.std.specs.Prelude.{◌≡◌, ◌++◌, ◌≤◌, length, drop, replicate};
+ghost use Rattle.records.specs.Refusals.{refusal_number};
+
+use records::Refusal;
 
 // A book's day and the number of its accepted transfers.
 #[repr(C)]
-#[derive(Clone, Copy)]
+#[derive(Clone, Copy, Debug, PartialEq, Eq)]
 pub struct Book {
     pub day: u32,
     pub count: u32,
@@ -21,21 +24,23 @@ pub const TRACKING_WORDS: usize = 4096;
 
 // What a call answers: its number, the book after it, and how many claims it wrote.
 #[repr(C)]
-#[derive(Clone, Copy)]
+#[derive(Clone, Copy, Debug, PartialEq, Eq)]
 pub struct Done {
     pub number: u16,
     pub book: Book,
     pub claims: usize,
 }
 
-// The answer to a refused call: its number, the book given and no claims.
-pub fn refused(number: u16, book: Book) -> Done
-    ensures { result ≡ record { number = number; book = book; claims = 0 } }
-{
-    Done {
-        number,
-        book,
-        claims: 0,
+impl Done {
+    // The answer to a refused call: the number of the refusal, the book given and no claims.
+    pub fn refused(refusal: Refusal, book: Book) -> Done
+        ensures { result ≡ record { number = refusal_number refusal; book = book; claims = 0 } }
+    {
+        Done {
+            number: refusal.number(),
+            book,
+            claims: 0,
+        }
     }
 }
 
@@ -43,11 +48,7 @@ pub fn refused(number: u16, book: Book) -> Done
 pub fn clear(balances: &mut [u64])
     ensures { balances.new ≡ replicate (length balances.old) 0 }
 {
-    let mut i: usize = 0;
-    while i < balances.len() {
-        balances[i] = 0;
-        i += 1;
-    }
+    balances.fill(0);
 }
 
 // Copies words to the start of others.
@@ -55,9 +56,5 @@ pub fn copy(from: &[u64], to: &mut [u64])
     requires { length from.now ≤ length to.old }
     ensures { to.new ≡ from.now ++ drop (length from.now) to.old }
 {
-    let mut w: usize = 0;
-    while w < from.len() {
-        to[w] = from[w];
-        w += 1;
-    }
+    to[..from.len()].copy_from_slice(from);
 }

@@ -75,11 +75,11 @@ above_zero refusal.OtherDate = omega arith
 pub refused_number : (r : Refusal) → refusal_number r ≡ 0 → ⊥
 refused_number r e = omega (arith, above_zero r)
 
-pub judged_is : {n : ℕ} {r : Result Unit Refusal} {f : Refusal} → judged_number r ≡ n → r ≡ Err f → refusal_number f ≡ n
+pub judged_is : {A : Type 0} {n : ℕ} {r : Result A Refusal} {f : Refusal} → judged_number r ≡ n → r ≡ Err f → refusal_number f ≡ n
 unfolding judged_number
 judged_is e q = sym (ap judged_number q) ∙ e
 
-pub judged_none : {n : ℕ} {r : Result Unit Refusal} {u : Unit} → judged_number r ≡ n → r ≡ Ok u → n ≡ 0
+pub judged_none : {A : Type 0} {n : ℕ} {r : Result A Refusal} {u : A} → judged_number r ≡ n → r ≡ Ok u → n ≡ 0
 unfolding judged_number
 judged_none e q = sym e ∙ ap judged_number q
 

@@ -30,6 +30,6 @@ refusal_number refusal.LaterDate = 138
 refusal_number refusal.OtherDate = 139
 
 -- The number of a judgement: 0 where nothing is refused.
-unfoldable pub judged_number : Result Unit Refusal → ℕ
+unfoldable pub judged_number : {A : Type 0} → Result A Refusal → ℕ
 judged_number (Ok _) = 0
 judged_number (Err r) = refusal_number r
