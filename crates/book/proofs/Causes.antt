@@ -1,6 +1,6 @@
 -- The laws of the code that gives the numbers 1 to 4: each test of the code decides one cause, and what the loop over the balances keeps.
 use mathlib.Core.Path.{◌≡◌, refl, sym, ap, ◌∙◌}
-use mathlib.Core.Bool.{Bool, true, false, not, ◌&&◌, ◌||◌}
+use mathlib.Core.Bool.{Bool, true, false, cond, not, ◌&&◌, ◌||◌}
 use mathlib.Core.List.{List}
 use Prim.Native.Nat.{ℕ, ◌+◌, ◌≤◌, ◌<◌}
 use native.Mathlib.Numerals.{add-one}
@@ -8,11 +8,14 @@ use native.Mathlib.Omega.{arith}
 use lib.Dec.{eqb}
 use lib.ListN.{length, get_or, drop, drop_of_length-le}
 use lib.Seq.{drop-cons}
-use borrow.Author.Tests.{eqb-true, eq-eqb, ne_eqb, le-leb, lt-leb, not-false}
+use borrow.Author.Tests.{eqb-true, eq-eqb, ne_eqb, le-leb, lt-leb, not-true, not-false}
 use Rattle.lists.specs.Tests.{or_false_left, or_false_right}
 use Rattle.lists.specs.First.{first_of, numbered, applies_at, hit, skip, none}
 use Rattle.lists.proofs.First.{cleared}
-use Rattle.days.specs.Days.{bad_calendar, is_open, open_after}
+use Rattle.std.proofs.Common.{Option, None, Some}
+use Rattle.std.specs.Option.{is_some}
+use Rattle.days.specs.declared.Date.{Date}
+use Rattle.days.specs.Days.{bad_calendar, is_open, open_after, as_day}
 use Rattle.securities.specs.Securities.{good_tables}
 use Rattle.book.specs.Book.{Position, position}
 use Rattle.book.specs.Soundness.{wrong_length, bad_day, good_balance, good_balances_from, bad_balances, table_causes, state_causes, wrong_carry, carry_causes, present_causes}
@@ -28,6 +31,10 @@ or_right false b e = e
 
 pub or_none : (a b : Bool) → a ≡ false → b ≡ false → a || b ≡ false
 or_none a b e f = rw (e, f)
+
+pub unless : (a : Bool) → (a ≡ true → ⊥) → not a ≡ true
+unless true h = absurd (h refl)
+unless false h = refl
 
 -- ---- numbers 1 to 3
 
@@ -146,13 +153,15 @@ module _ (calendar : List ℕ) (day : ℕ) (balances : List ℕ) where
 -- ---- the day
 
 module _ (calendar : List ℕ) (day : ℕ) where
-  pub day_followed : is_open calendar day ≡ true → (open_after calendar day ≡ 0 → ⊥) → false ≡ bad_day calendar day
-  unfolding bad_day
-  day_followed o n = rw (o, ne_eqb (open_after calendar day) 0 n)
-
-  pub day_last : open_after calendar day ≡ 0 → true ≡ bad_day calendar day
-  unfolding bad_day
-  day_last e = sym (or_right (not (is_open calendar day)) _ (eq-eqb (open_after calendar day) 0 e))
+  -- an open day goes by whether a day follows it
+  pub day_open : {r : Option Date} {b : Bool} → is_open calendar day ≡ true → r ≡ as_day (open_after calendar day) → is_some r ≡ not b
+      → b ≡ bad_day calendar day
+  unfolding bad_day as_day
+  day_open {r} {b} o e n = rw o (go (eqb (open_after calendar day) 0) b (sym (ap is_some e) ∙ n))
+    where
+      go : (t b : Bool) → is_some {T = Date} (cond t None (Some (record { 0 = open_after calendar day }))) ≡ not b → b ≡ t
+      go true b n = not-false b (sym n)
+      go false b n = not-true b (sym n)
 
   pub day_closed : is_open calendar day ≡ false → true ≡ bad_day calendar day
   unfolding bad_day

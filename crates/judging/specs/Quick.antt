@@ -1,5 +1,5 @@
 -- A quick test of the balances: where what they have above the largest balance adds up to nothing, and so does what accounts have lent
--- themselves, they are good (`quick-good` in proofs/Quick.antt). The two sums ask no question of a single word, so that many words can be
+-- themselves, they are good (`quick_good` in proofs/Quick.antt). The two sums ask no question of a single word, so that many words can be
 -- taken at once.
 use Rattle.std.specs.Prelude.{List, ℕ, zero, suc, ◌+◌, ◌*◌, ◌/◌, ◌%◌, get_or}
 

@@ -1,86 +1,90 @@
 // Judges calendar, tables, a book's day and its balances (document 01, section The book), with the numbers 1 to 4 of what can be refused,
-// and date limits and minimum pieces (document 02, cards 5 and 6), with numbers 12 and 13; so a saved book that is carried over (card 8), and
+// and date limits and minimum pieces (document 02, cards 5 and 6), with numbers 12 and 13; so a saved book that is carried over (card 8), or
 // one that is marked or left for a mark (card 9).
-// Calendar, tables, balances, limits and pieces are taken in any length where a function gives the number for it.
+// Calendar, tables, balances, limits and pieces are taken in any length where a function judges their length; what it finds good it hands on
+// as the type that says so.
 #![tactic(auto)]
 
-ghost use Rattle.std.specs.Prelude.{◌≡◌, true, length};
+ghost use Rattle.std.specs.Prelude.{◌≡◌, length, IfOk};
 ghost use Rattle.lists.specs.First.{first_of};
 ghost use Rattle.lists.specs.Sums.{sum};
+ghost use Rattle.records.specs.Refusals.{judged_number};
 ghost use Rattle.book.specs.Book.{position};
 ghost use Rattle.book.specs.Soundness.{bad_day, good_balance, bad_balances, table_causes, state_causes, book_causes, lent_book_causes, opening_causes};
 ghost use Rattle.book.specs.Soundness.{carry_causes, present_causes};
 ghost use Rattle.judging.specs.Quick.{excess_of, own_pars};
 
-use days::Day;
+use days::Calendar;
+use records::Refusal;
+use securities::{Limits, Pieces, Tables};
 
-// The words of the calendar, the tables and the balances.
-const CALENDAR_WORDS: usize = 480;
-
-const TABLE_WORDS: usize = 1824;
-
+// The words of the balances.
 const BALANCE_WORDS: usize = 8192;
 
-// The number 1, 2 or 3 that calendar, tables and balances meet, 0 where they meet none.
-fn table_number(calendar: &[u32], tables: &[u32], balances: &[u64]) -> u16
-    ensures { result ≡ first_of (table_causes calendar.now tables.now balances.now) }
+// A calendar with the tables that keep its rules.
+#[derive(Drop)]
+pub struct Market<'a> {
+    pub calendar: Calendar<'a>,
+    pub tables: Tables<'a>,
+}
+
+// What a transfer is lent besides the book.
+#[derive(Drop)]
+pub struct Lent<'a> {
+    pub market: Market<'a>,
+    pub limits: Limits<'a>,
+    pub pieces: Pieces<'a>,
+}
+
+// Numbers 1 to 3 of calendar, tables and balances.
+fn judge_tables<'a>(
+    calendar: &'a [u32],
+    tables: &'a [u32],
+    balances: &[u64],
+) -> Result<Market<'a>, Refusal>
+    ensures value { IfOk result (λ m. (m.calendar ≡ calendar.now) × (m.tables ≡ tables.now)) }
+    ensures number { judged_number result ≡ first_of (table_causes calendar.now tables.now balances.now) }
 {
-    if calendar.len() != CALENDAR_WORDS {
-        return 1;
-    }
-    if tables.len() != TABLE_WORDS {
-        return 1;
-    }
+    let Some(calendar) = Calendar::new(calendar) else {
+        return Err(Refusal::Length);
+    };
+    let Some(tables) = Tables::new(tables) else {
+        return Err(Refusal::Length);
+    };
     if balances.len() != BALANCE_WORDS {
-        return 1;
+        return Err(Refusal::Length);
     }
-    if days::bad_calendar(calendar) {
-        return 2;
+    if calendar.is_bad() {
+        return Err(Refusal::Calendar);
     }
-    if securities::good_tables(calendar, tables) {
-        return 0;
+    if !tables.is_good(&calendar) {
+        return Err(Refusal::Tables);
     }
-    3
+    Ok(Market { calendar, tables })
 }
 
 // Whether a day is not open or has no open day after it.
-fn bad_day(calendar: &[u32], day: u32) -> bool
-    requires { length calendar.now ≡ 480 }
+fn bad_day(calendar: &Calendar<'_>, day: u32) -> bool
     ensures { result ≡ bad_day calendar.now day }
 {
-    if days::is_open(calendar, day) {
-        match days::open_after(calendar, day) {
-            Day::On(_) => false,
-            Day::Nothing => true,
-        }
-    } else {
-        true
-    }
+    !calendar.is_open(day) || calendar.open_after(day).is_none()
 }
 
 // Whether word w may hold a par.
 fn good_balance(w: usize, par: u64) -> bool
     ensures { result ≡ good_balance (position w) par }
 {
-    if par == 0 {
-        return true;
-    }
-    if book::LARGEST_BALANCE < par {
-        return false;
-    }
-    w / 16 % 16 != w % 16
+    par == 0 || (par <= book::LARGEST_BALANCE && w / 16 % 16 != w % 16)
 }
 
 // Whether a balance is too large, or nonzero where an account would lend itself: the words one by one.
 fn judge_balances(balances: &[u64]) -> bool
     ensures { result ≡ bad_balances balances.now }
 {
-    let mut w: usize = 0;
-    while w < balances.len() {
+    for w in 0..balances.len() {
         if !good_balance(w, balances[w]) {
             return true;
         }
-        w += 1;
     }
     false
 }
@@ -91,11 +95,8 @@ fn excesses(balances: &[u64]) -> u64
     ensures { result ≡ sum excess_of balances.now }
 {
     let mut total: u64 = 0;
-    let mut w: usize = 0;
-    while w < balances.len() {
-        let par = balances[w];
+    for par in balances {
         total += par / 17179869184 + (par % 17179869184 + 8179869183) / 17179869184;
-        w += 1;
     }
     total
 }
@@ -106,10 +107,8 @@ fn own_pars(balances: &[u64]) -> u64
     ensures { result ≡ own_pars balances.now 512 }
 {
     let mut total: u64 = 0;
-    let mut n: usize = 0;
-    while n < 512 {
+    for n in 0..512 {
         total += balances[256 * (n / 16) + 17 * (n % 16)];
-        n += 1;
     }
     total
 }
@@ -119,113 +118,123 @@ fn own_pars(balances: &[u64]) -> u64
 fn bad_balances(balances: &[u64]) -> bool
     ensures { result ≡ bad_balances balances.now }
 {
-    if balances.len() != BALANCE_WORDS {
-        return judge_balances(balances);
-    }
-    if excesses(balances) != 0 {
-        return judge_balances(balances);
-    }
-    if own_pars(balances) == 0 {
+    if balances.len() == BALANCE_WORDS && excesses(balances) == 0 && own_pars(balances) == 0 {
         return false;
     }
     judge_balances(balances)
 }
 
-// The number 4 where a book's day or its balances meet it, else 0.
-pub fn state_number(calendar: &[u32], day: u32, balances: &[u64]) -> u16
-    requires { length calendar.now ≡ 480 }
-    ensures { result ≡ first_of (state_causes calendar.now day balances.now) }
+// Number 4 of a book's day and its balances.
+pub fn judge_state(calendar: &Calendar<'_>, day: u32, balances: &[u64]) -> Result<(), Refusal>
+    ensures { judged_number result ≡ first_of (state_causes calendar.now day balances.now) }
 {
-    if bad_day(calendar, day) {
-        return 4;
+    if bad_day(calendar, day) || bad_balances(balances) {
+        return Err(Refusal::Book);
     }
-    if bad_balances(balances) {
-        return 4;
-    }
-    0
+    Ok(())
 }
 
-// The first of the numbers 1 to 4 that a close or a run of a stream meets, 0 where it meets none.
-pub fn book_number(calendar: &[u32], tables: &[u32], day: u32, balances: &[u64]) -> u16
-    ensures { result ≡ first_of (book_causes calendar.now tables.now day balances.now) }
-{
-    let number = table_number(calendar, tables, balances);
-    if number != 0 {
-        return number;
-    }
-    state_number(calendar, day, balances)
-}
-
-// The first of the numbers 1, 2, 3, 12, 13 and 4 that a transfer meets, 0 where it meets none.
-pub fn transfer_number(
-    calendar: &[u32],
-    tables: &[u32],
-    limits: &[u32],
-    pieces: &[u32],
+// Numbers 1 to 4 of a close or a run of a stream.
+pub fn judge_book<'a>(
+    calendar: &'a [u32],
+    tables: &'a [u32],
     day: u32,
     balances: &[u64],
-) -> u16
-    ensures { result ≡ first_of (lent_book_causes calendar.now tables.now limits.now pieces.now
-        day balances.now) }
+) -> Result<Market<'a>, Refusal>
+    ensures value { IfOk result (λ m. (m.calendar ≡ calendar.now) × (m.tables ≡ tables.now)) }
+    ensures number { judged_number result ≡ first_of (book_causes calendar.now tables.now day balances.now) }
 {
-    let number = table_number(calendar, tables, balances);
-    if number != 0 {
-        return number;
-    }
-    if !securities::good_limits(limits) {
-        return 12;
-    }
-    if !securities::good_pieces(pieces) {
-        return 13;
-    }
-    state_number(calendar, day, balances)
+    let market = judge_tables(calendar, tables, balances)?;
+    judge_state(&market.calendar, day, balances)?;
+    Ok(market)
 }
 
-// The first of the numbers 1 to 4 that an opening meets, 0 where it meets none; what the balances hold does not matter.
-pub fn opening_number(calendar: &[u32], tables: &[u32], balances: &[u64], day: u32) -> u16
-    ensures { result ≡ first_of (opening_causes calendar.now tables.now balances.now day) }
+// Numbers 1, 2, 3, 12, 13 and 4 of a transfer.
+pub fn judge_transfer<'a>(
+    calendar: &'a [u32],
+    tables: &'a [u32],
+    limits: &'a [u32],
+    pieces: &'a [u32],
+    day: u32,
+    balances: &[u64],
+) -> Result<Lent<'a>, Refusal>
+    ensures value { IfOk result (λ l. (l.market.calendar ≡ calendar.now) × (l.market.tables ≡ tables.now) × (l.limits ≡ limits.now) × (l.pieces ≡ pieces.now)) }
+    ensures number { judged_number result
+        ≡ first_of (lent_book_causes calendar.now tables.now limits.now pieces.now day balances.now) }
 {
-    let number = table_number(calendar, tables, balances);
-    if number != 0 {
-        return number;
-    }
-    if bad_day(calendar, day) {
-        return 4;
-    }
-    0
+    let market = judge_tables(calendar, tables, balances)?;
+    let Some(limits) = Limits::new(limits) else {
+        return Err(Refusal::Limits);
+    };
+    let Some(pieces) = Pieces::new(pieces) else {
+        return Err(Refusal::Pieces);
+    };
+    judge_state(&market.calendar, day, balances)?;
+    Ok(Lent {
+        market,
+        limits,
+        pieces,
+    })
 }
 
-// The first of the numbers 1, 2 and 4 that carrying a saved book over meets, 0 where it meets none; what the balances hold does not matter.
-pub fn carry_number(calendar: &[u32], day: u32, saved: &[u64], balances: &[u64]) -> u16
-    ensures { result ≡ first_of (carry_causes calendar.now day saved.now balances.now) }
+// Numbers 1 to 4 of an opening; what the balances hold does not matter.
+pub fn judge_opening(
+    calendar: &[u32],
+    tables: &[u32],
+    balances: &[u64],
+    day: u32,
+) -> Result<(), Refusal>
+    ensures { judged_number result ≡ first_of (opening_causes calendar.now tables.now balances.now day) }
 {
-    if calendar.len() != CALENDAR_WORDS {
-        return 1;
+    let market = judge_tables(calendar, tables, balances)?;
+    if bad_day(&market.calendar, day) {
+        return Err(Refusal::Book);
     }
+    Ok(())
+}
+
+// Numbers 1, 2 and 4 of carrying a saved book over; what the balances hold does not matter.
+pub fn judge_carry(
+    calendar: &[u32],
+    day: u32,
+    saved: &[u64],
+    balances: &[u64],
+) -> Result<(), Refusal>
+    ensures { judged_number result ≡ first_of (carry_causes calendar.now day saved.now balances.now) }
+{
+    let Some(calendar) = Calendar::new(calendar) else {
+        return Err(Refusal::Length);
+    };
     if saved.len() != book::TRACKING_WORDS {
-        return 1;
+        return Err(Refusal::Length);
     }
     if balances.len() != BALANCE_WORDS {
-        return 1;
+        return Err(Refusal::Length);
     }
-    if days::bad_calendar(calendar) {
-        return 2;
+    if calendar.is_bad() {
+        return Err(Refusal::Calendar);
     }
-    state_number(calendar, day, saved)
+    judge_state(&calendar, day, saved)
 }
 
-// The first of the numbers 1, 2 and 4 that calendar and present book meet where a mark is set or gone back to, 0 where they meet none.
-pub fn present_number(calendar: &[u32], day: u32, balances: &[u64]) -> u16
-    ensures { result ≡ first_of (present_causes calendar.now day balances.now) }
+// Numbers 1, 2 and 4 of calendar and present book where a mark is set or gone back to.
+pub fn judge_present<'a>(
+    calendar: &'a [u32],
+    day: u32,
+    balances: &[u64],
+) -> Result<Calendar<'a>, Refusal>
+    ensures value { IfOk result (λ c. c ≡ calendar.now) }
+    ensures number { judged_number result ≡ first_of (present_causes calendar.now day balances.now) }
 {
-    if calendar.len() != CALENDAR_WORDS {
-        return 1;
-    }
+    let Some(calendar) = Calendar::new(calendar) else {
+        return Err(Refusal::Length);
+    };
     if balances.len() != BALANCE_WORDS {
-        return 1;
+        return Err(Refusal::Length);
     }
-    if days::bad_calendar(calendar) {
-        return 2;
+    if calendar.is_bad() {
+        return Err(Refusal::Calendar);
     }
-    state_number(calendar, day, balances)
+    judge_state(&calendar, day, balances)?;
+    Ok(calendar)
 }

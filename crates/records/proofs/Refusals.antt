@@ -1,10 +1,14 @@
 -- A refusal and its number: none has the number 0, and no two have one number.
 use mathlib.Core.Path.{◌≡◌, refl, sym, ap, ◌∙◌}
-use mathlib.Core.Bool.{cond}
+use mathlib.Core.Bool.{true, cond}
+use mathlib.Core.List.{List, ◌++◌}
 use Prim.Native.Nat.{ℕ, ◌<◌}
 use native.Mathlib.Omega.{arith}
 use lib.Dec.{eqb}
 use Rattle.std.proofs.Common.{Result, Ok, Err}
+use Rattle.std.specs.Result.{IsErrAnd}
+use Rattle.std.proofs.lemmas.Result.{err_from_is_err_and}
+use Rattle.lists.specs.First.{Cause, first_of, numbered, first_group, next_group, none_applies}
 use Rattle.records.specs.declared.Refusal.{Refusal}
 use Rattle.records.specs.declared.Refusal.TheVariants as refusal
 use Rattle.records.specs.Refusals.{refusal_number, judged_number}
@@ -82,6 +86,21 @@ judged_is e q = sym (ap judged_number q) ∙ e
 pub judged_none : {A : Type 0} {n : ℕ} {r : Result A Refusal} {u : A} → judged_number r ≡ n → r ≡ Ok u → n ≡ 0
 unfolding judged_number
 judged_none e q = sym e ∙ ap judged_number q
+
+-- ---- a judgement that `?` hands on, in a table of causes that goes on after those of the judgement
+
+pub handed_on : {A B : Type 0} {r : Result A Refusal} {f : Refusal} (s : Result B Refusal) → r ≡ Err f → IsErrAnd s (λ y. y ≡ f)
+    → judged_number s ≡ judged_number r
+unfolding judged_number
+handed_on s e h = let p = err_from_is_err_and s h in rw (p.1, p.2, e) refl
+
+module _ {A : Type 0} {r : Result A Refusal} (xs ys : List Cause) where
+  pub refused_first : {f : Refusal} → judged_number r ≡ first_of xs → r ≡ Err f → judged_number r ≡ first_of (xs ++ ys)
+  refused_first {f} k e = k ∙ sym (first_group xs ys (λ z. refused_number f (judged_is (k ∙ z) e)))
+
+  pub passed_first : {v : A} {n : ℕ} → numbered xs ≡ true → judged_number r ≡ first_of xs → r ≡ Ok v → n ≡ first_of ys
+      → n ≡ first_of (xs ++ ys)
+  passed_first t k e h = h ∙ sym (next_group xs ys (none_applies xs t (judged_none k e)))
 
 pub room_number : refusal_number refusal.Room ≡ 10
 unfolding refusal_number

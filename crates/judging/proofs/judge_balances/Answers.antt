@@ -1,9 +1,6 @@
+-- Each turn judges the next word.
 use mathlib.Core.Path.{sym, ◌∙◌}
-use Prim.Native.Nat.{◌-◌}
-use borrow.Author.Tests.{not-true, not-false}
-use lib.ListN.{length}
-use Rattle.book.proofs.Causes.{Judging, judge_start, judge_bad, judge_next, judge_end}
-use borrow.Author.Rules.{rules}
+use Rattle.book.proofs.Causes.{judge_start, judge_bad, judge_next, judge_end}
 use Rattle.judging.proofs.judge_balances.Goals as goal
 
 pub loop-w-init : goal.loop-w-init
