@@ -4,7 +4,7 @@ use Rattle.lists.specs.All.{all}
 use Rattle.lists.specs.Numbers.{Bytes}
 use Rattle.lists.specs.Sums.{sum}
 use Rattle.records.specs.declared.Claim.{Claim}
-use Rattle.std.specs.Prelude.{Option, Some, None}
+use Rattle.std.specs.Prelude.{Some}
 use Rattle.claims.specs.Written.{claim_size, bytes_of_all, AllFit}
 use Rattle.cash.specs.Cash.{good_parties, bad_run, pay_on, receive_on, cents_to_pay, cents_to_receive}
 

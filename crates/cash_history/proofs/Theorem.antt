@@ -8,7 +8,7 @@ use lib.ListN.{length, take, drop}
 use lib.Seq.{take_at}
 use Rattle.lists.specs.All.{all, all_append}
 use Rattle.lists.specs.First.{first_of}
-use Rattle.std.proofs.Common.{Option, Some, None}
+use Rattle.std.proofs.Common.{Option}
 use Rattle.records.specs.declared.Claim.{Claim}
 use Rattle.claims.proofs.Passes.{all_length}
 use Rattle.claims.specs.Written.{bytes_of_all, written, readings}

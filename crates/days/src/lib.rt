@@ -130,14 +130,6 @@ impl<'a> Calendar<'a> {
         }
     }
 
-    // The calendar of 480 words.
-    pub fn of(words: &'a [u32]) -> Calendar<'a>
-        requires { length words.now ≡ 480 }
-        ensures { result ≡ words.now }
-    {
-        Calendar { months: words }
-    }
-
     // Whether a bit is on for a day that its month lacks: number 2.
     pub fn is_bad(&self) -> bool
         ensures { result ≡ bad_calendar self.now }

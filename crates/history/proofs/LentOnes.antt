@@ -6,7 +6,6 @@ use Prim.Native.Nat.{ℕ, zero, suc, ◌%◌}
 use native.Mathlib.Omega.{arith}
 use lib.ListN.{get_or, replicate}
 use borrow.Author.Tests.{eq-eqb}
-use Rattle.lists.specs.All.{all}
 use Rattle.lists.specs.First.{first_of, applies_at, without, first_without}
 use Rattle.records.specs.MessageRecords.{transfer_of}
 use Rattle.records.specs.declared.Transfer.{Transfer}

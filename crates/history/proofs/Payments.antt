@@ -14,7 +14,7 @@ use borrow.Author.Tests.{ltb-false}
 use Rattle.lists.specs.Sums.{sum, sum_one, sum_append, sum_map, sum_equal, sum_zero, sum_plus, sum_cond, cond_zero}
 use Rattle.lists.specs.Tabulate.{each, each_of, sum_each_of, sum_each_none, sum_each_one}
 use Rattle.records.specs.declared.Claim.{Claim}
-use Rattle.std.proofs.Common.{Option, Some, None}
+use Rattle.std.proofs.Common.{Some}
 use Rattle.records.specs.MessageRecords.{transfer_of}
 use Rattle.securities.specs.declared.Row.{Row}
 use Rattle.tags.specs.ContractDateTag.{tagged}

@@ -8,7 +8,6 @@ use lib.ListN.{length, replicate, length-replicate}
 use borrow.Author.Tests.{ne_eqb}
 use Rattle.lists.specs.Tests.{and_both, or_false_left, or_false_right}
 use Rattle.lists.specs.First.{cause, NoneApplies, first_of, numbered, applies_at, none_applies, first_none, cleared_by, none_left, none_right}
-use Rattle.lists.proofs.First.{cleared}
 use Rattle.days.specs.Days.{is_open, open_after}
 use Rattle.days.proofs.OpenDays.{after_open, open_date}
 use Rattle.records.specs.MessageRecords.{transfer_kind, transfer_of}

@@ -1,7 +1,6 @@
 -- The definitions of this crate and of those below it that computed rows open, under one name.
 use Prim.Native.Nat.{ℕ}
 use Rattle.lists.specs.Tests.{below}
-use Rattle.lists.specs.All.{all}
 use Rattle.lists.specs.Numbers.{bytes_of, number_of}
 use Rattle.lists.specs.Fields.{total, encode, decode}
 use Rattle.lists.specs.First.{first_of}

@@ -99,14 +99,6 @@ impl<'a> Tables<'a> {
         }
     }
 
-    // The tables of 1,824 words.
-    pub fn of(words: &'a [u32]) -> Tables<'a>
-        requires { length words.now ≡ 1824 }
-        ensures { result ≡ words.now }
-    {
-        Tables { words }
-    }
-
     // Whether the tables keep every rule: number 3 where they do not.
     pub fn is_good(&self, calendar: &Calendar<'_>) -> bool
         ensures { result ≡ good_tables calendar.now self.now }

@@ -12,7 +12,7 @@ use borrow.Author.Tests.{ne_eqb}
 use Rattle.lists.specs.First.{first_of}
 use Rattle.book.specs.declared.Book.{Book}
 use Rattle.book.specs.Soundness.{book_causes}
-use Rattle.history.specs.Results.{result, run_by, run}
+use Rattle.history.specs.Results.{result, run_by}
 use Rattle.history.proofs.StaysSound.{result_sound}
 use Rattle.stream.specs.declared.Next.{Next}
 use Rattle.stream.specs.declared.Next.TheVariants.{Waiting, Wrong, Record}

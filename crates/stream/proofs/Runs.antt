@@ -12,7 +12,7 @@ use borrow.Author.Tests.{lt-ltb, le-ltb}
 use Rattle.lists.specs.Tests.{cond_true, cond_false}
 use Rattle.lists.specs.First.{first_of}
 use Rattle.lists.specs.Put.{put, put_none, put_put, put_length}
-use Rattle.records.specs.MessageRecords.{close_kind, size, reads}
+use Rattle.records.specs.MessageRecords.{close_kind, reads}
 use Rattle.securities.specs.Lent.{ones}
 use Rattle.claims.specs.Written.{written}
 use Rattle.book.specs.declared.Book.{Book}
