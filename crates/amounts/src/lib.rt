@@ -1,198 +1,191 @@
 // One claim on a row (document 01, section Amounts, outcomes, release): its amounts, outcome, release and slot, and its record in a
-// claim buffer. A row is the seven words of a filled row of the tables.
+// claim buffer.
 #![tactic(auto)]
 
 ghost use Rattle.std.specs.Prelude.{◌≡◌, cond, ◌&&◌, ℕ, ◌+◌, ◌*◌, ◌≤◌, ◌<◌, eqb, leb, length};
 ghost use Rattle.lists.specs.Put.{put};
 ghost use Rattle.days.specs.Days.{day_number};
-ghost use Rattle.securities.specs.Securities.{row_of};
-ghost use Rattle.claims.specs.Amounts.{interim_type, cents_on, is_tracked, outcome_of, release_of, is_early, slot_of, claim_on};
+ghost use Rattle.claims.specs.Amounts.{interim_type, cents_on, is_tracked, outcome_of, is_late, release_of, is_early, slot_of, claim_on};
 ghost use Rattle.claims.specs.Claimable.{Claimable};
 ghost use Rattle.claims.specs.Written.{claim_bytes};
+ghost use Rattle.amounts.specs.Numbers.{type_number, outcome_number};
 
-use days::Day;
+use claims::Parties;
+use days::{Calendar, Date};
 use records::{Cents, Claim, Dollars};
+use securities::{Row, Tables};
 
-// The type of a fail claim.
-pub const FAIL: u8 = 1;
+// The type of a claim.
+#[derive(Clone, Copy, Debug, PartialEq, Eq)]
+pub enum ClaimType {
+    Fail,
+    Interim,
+    Lending,
+    Repo,
+}
 
-// The type of an interim claim.
-pub const INTERIM: u8 = 2;
+impl ClaimType {
+    // The number that a claim's record gives for it.
+    #[tactic(auto, unfolding(crate::specs::Numbers::type_number))]
+    pub fn number(self) -> u8
+        ensures { result ≡ type_number self }
+    {
+        match self {
+            ClaimType::Fail => 1,
+            ClaimType::Interim => 2,
+            ClaimType::Lending => 3,
+            ClaimType::Repo => 4,
+        }
+    }
 
-// The type of a lending claim.
-pub const LENDING: u8 = 3;
+    // Whether a claim of the type is one on par on loan or on repo.
+    #[tactic(auto, unfolding(claims::specs::Amounts::is_tracked, crate::specs::Numbers::type_number))]
+    fn is_tracked(self) -> bool
+        ensures { result ≡ is_tracked (type_number self) }
+    {
+        matches!(self, ClaimType::Lending | ClaimType::Repo)
+    }
 
-// The type of a repo claim.
-pub const REPO: u8 = 4;
+    // Whether a claim of the type is a fail or interim claim with Payment Date on or before the day.
+    #[tactic(auto, unfolding(claims::specs::Amounts::is_late, crate::specs::Numbers::type_number))]
+    fn is_late(self, day: u32, row: Row) -> bool
+        ensures { result ≡ is_late (type_number self) day row }
+    {
+        matches!(self, ClaimType::Fail | ClaimType::Interim) && row.payment_date <= day
+    }
+}
 
-// The outcome of a claim that settles.
-const SETTLE: u8 = 0;
+// What becomes of a claim: it settles, or it is a notice.
+#[derive(Clone, Copy, Debug, PartialEq, Eq)]
+enum Outcome {
+    Settle,
+    // Both amounts are zero.
+    Nothing,
+    // The payment redeems a security on loan or on repo.
+    Redeemed,
+    // The payer's mask bit is on.
+    Masked,
+}
 
-// A notice: both amounts are zero.
-const NOTHING: u8 = 1;
+impl Outcome {
+    // The outcome, the first that applies.
+    #[tactic(auto, unfolding(claims::specs::Amounts::outcome_of, days::specs::Days::bit_on, crate::specs::Numbers::outcome_number))]
+    fn of(claim_type: ClaimType, payer: u8, row: Row, interest: Cents, principal: Cents) -> Outcome
+        requires { payer < 16 }
+        ensures { outcome_number result ≡ outcome_of (type_number claim_type) payer row interest.0 principal.0 }
+    {
+        if interest.0 == 0 && principal.0 == 0 {
+            Outcome::Nothing
+        } else if claim_type.is_tracked() && row.redeems == 1 {
+            Outcome::Redeemed
+        } else if (row.mask >> payer) % 2 == 1 {
+            Outcome::Masked
+        } else {
+            Outcome::Settle
+        }
+    }
 
-// A notice: the payment redeems a security on loan or on repo.
-const REDEEMED: u8 = 2;
-
-// A notice: the payer's mask bit is on.
-const MASKED: u8 = 3;
+    // The number that a claim's record gives for it.
+    #[tactic(auto, unfolding(crate::specs::Numbers::outcome_number))]
+    fn number(self) -> u8
+        ensures { result ≡ outcome_number self }
+    {
+        match self {
+            Outcome::Settle => 0,
+            Outcome::Nothing => 1,
+            Outcome::Redeemed => 2,
+            Outcome::Masked => 3,
+        }
+    }
+}
 
 // The cents on whole dollars of par at a factor in billionths of a dollar; half a cent goes up.
+#[tactic(auto, unfolding(claims::specs::Amounts::cents_on))]
 fn cents_on(par: Dollars, factor: u32) -> Cents
     requires { (par.0 ≤ 9000000000) × (factor ≤ 2000000000) }
     ensures { result.0 ≡ cents_on par.0 factor }
 {
-    let dollars = par.0;
-    Cents((dollars * (factor as u64) + 5000000) / 10000000)
-}
-
-// Whether both amounts are zero.
-fn is_nothing(interest: Cents, principal: Cents) -> bool
-    ensures { result ≡ (eqb interest.0 0 && eqb principal.0 0) }
-{
-    if interest.0 != 0 {
-        return false;
-    }
-    principal.0 == 0
-}
-
-// Whether a claim is one on par on loan or on repo.
-fn is_tracked(claim_type: u8) -> bool
-    ensures { result ≡ is_tracked claim_type }
-{
-    if claim_type == LENDING {
-        return true;
-    }
-    claim_type == REPO
-}
-
-// Whether a claim is a lending or repo claim on a payment that redeems the security.
-fn is_redeemed(claim_type: u8, last: u32) -> bool
-    ensures { result ≡ (is_tracked claim_type && eqb last 1) }
-{
-    if is_tracked(claim_type) {
-        return last == 1;
-    }
-    false
-}
-
-// The outcome, the first that applies.
-fn outcome(claim_type: u8, payer: u8, row: &[u32], interest: Cents, principal: Cents) -> u8
-    requires { (length row.now ≡ 7) × (payer < 16) }
-    ensures { (index : ℕ) → result ≡ outcome_of claim_type payer (row_of index row.now) interest.0 principal.0 }
-{
-    if is_nothing(interest, principal) {
-        return NOTHING;
-    }
-    if is_redeemed(claim_type, row[5]) {
-        return REDEEMED;
-    }
-    if (row[6] >> (payer as u32)) % 2 == 1 {
-        return MASKED;
-    }
-    SETTLE
+    Cents((par.0 * u64::from(factor) + 5000000) / 10000000)
 }
 
 // The number of a day, 0 where there is none.
-fn number_of(day: Day) -> u32
+#[tactic(auto, unfolding(days::specs::Days::day_number))]
+fn number_of(day: Option<Date>) -> u32
     ensures { result ≡ day_number day }
 {
-    match day {
-        Day::On(date) => date.0,
-        Day::Nothing => 0,
-    }
-}
-
-// Whether a claim is a fail or interim claim with Payment Date on or before the day.
-fn is_late(claim_type: u8, day: u32, payment_date: u32) -> bool
-    ensures { result ≡ (leb claim_type interim_type && leb payment_date day) }
-{
-    if INTERIM < claim_type {
-        return false;
-    }
-    payment_date <= day
+    day.map_or(0, |date| date.0)
 }
 
 // The release date, 0 for a notice.
-fn release(calendar: &[u32], claim_type: u8, day: u32, row: &[u32], outcome: u8) -> u32
-    requires { (length calendar.now ≡ 480) × (length row.now ≡ 7) }
-    ensures { (index : ℕ) → result ≡ release_of calendar.now claim_type day (row_of index row.now) outcome }
+#[tactic(auto, using(days::proofs::OpenDays::day_number_lem), unfolding(claims::specs::Amounts::release_of, crate::specs::Numbers::outcome_number))]
+fn release(
+    calendar: &Calendar<'_>,
+    claim_type: ClaimType,
+    day: u32,
+    row: Row,
+    outcome: Outcome,
+) -> u32
+    ensures { result ≡ release_of calendar.now (type_number claim_type) day row (outcome_number outcome) }
 {
-    if outcome != SETTLE {
-        return 0;
+    match outcome {
+        Outcome::Settle if claim_type.is_late(day, row) => number_of(calendar.open_after(day)),
+        Outcome::Settle => number_of(calendar.open_from(row.payment_date)),
+        _ => 0,
     }
-    if is_late(claim_type, day, row[2]) {
-        return number_of(days::open_after(calendar, day));
-    }
-    number_of(days::open_from(calendar, row[2]))
 }
 
-// The slot of a claim that is not late, by the type of its security.
-fn slot_of_type(security_type: u32) -> u8
-    ensures { result ≡ cond (is_early security_type) 1 3 }
+// Whether securities of a type are released early in the day.
+#[tactic(auto, unfolding(claims::specs::Amounts::is_early))]
+fn is_early(security_type: u32) -> bool
+    ensures { result ≡ is_early security_type }
 {
-    if security_type == 1 {
-        return 1;
-    }
-    if security_type == 4 {
-        return 1;
-    }
-    3
+    security_type == 1 || security_type == 4
 }
 
 // The slot, 0 for a notice.
-fn slot(security_type: u32, claim_type: u8, day: u32, row: &[u32], outcome: u8) -> u8
-    requires { length row.now ≡ 7 }
-    ensures { (index : ℕ) → result ≡ slot_of security_type claim_type day (row_of index row.now) outcome }
+#[tactic(auto, unfolding(claims::specs::Amounts::slot_of, crate::specs::Numbers::outcome_number))]
+fn slot(security_type: u32, claim_type: ClaimType, day: u32, row: Row, outcome: Outcome) -> u8
+    ensures { result ≡ slot_of security_type (type_number claim_type) day row (outcome_number outcome) }
 {
-    if outcome != SETTLE {
-        return 0;
+    match outcome {
+        Outcome::Settle if claim_type.is_late(day, row) => 2,
+        Outcome::Settle if is_early(security_type) => 1,
+        Outcome::Settle => 3,
+        _ => 0,
     }
-    if is_late(claim_type, day, row[2]) {
-        return 2;
-    }
-    slot_of_type(security_type)
 }
 
-// The claim of a type on the row with a number in its security.
+// The claim of a type on a row.
+#[tactic(auto, unfolding(claims::specs::Amounts::claim_on, claims::specs::Amounts::amount, claims::specs::Amounts::factor_for, claims::specs::Amounts::cents_for))]
 pub fn claim_on(
-    calendar: &[u32],
-    tables: &[u32],
+    calendar: &Calendar<'_>,
+    tables: &Tables<'_>,
     day: u32,
     number: u32,
-    security: u8,
-    payee: u8,
-    payer: u8,
+    parties: Parties,
     par: Dollars,
-    claim_type: u8,
-    index: u8,
-    row: &[u32],
+    claim_type: ClaimType,
+    row: Row,
 ) -> Claim
-    requires { Claimable calendar.now tables.now security payer par.0 row.now }
-    ensures { result ≡ claim_on calendar.now tables.now day number
-        (record { security = security; payee = payee; payer = payer }) par.0 claim_type (row_of index row.now) }
+    requires { Claimable parties par.0 row }
+    ensures { result ≡ claim_on calendar.now tables.now day number parties par.0 (type_number claim_type) row }
 {
-    let interest = cents_on(par, row[3]);
-    let principal = cents_on(par, row[4]);
-    let outcome = outcome(claim_type, payer, row, interest, principal);
+    let interest = cents_on(par, row.interest_factor);
+    let principal = cents_on(par, row.principal_factor);
+    let outcome = Outcome::of(claim_type, parties.payer, row, interest, principal);
+    let security_type = tables.security_type(parties.security);
     Claim {
-        claim_type,
-        outcome,
-        payer,
-        payee,
-        security,
-        row: index,
+        claim_type: claim_type.number(),
+        outcome: outcome.number(),
+        payer: parties.payer,
+        payee: parties.payee,
+        security: parties.security,
+        row: row.index,
         transfer: number,
         interest,
         principal,
         release: release(calendar, claim_type, day, row, outcome),
-        slot: slot(
-            tables[114 * (security as usize)],
-            claim_type,
-            day,
-            row,
-            outcome,
-        ),
+        slot: slot(security_type, claim_type, day, row, outcome),
     }
 }
 
@@ -202,5 +195,6 @@ pub fn put_claim(buffer: &mut [u8], n: usize, c: Claim)
     ensures { buffer.new ≡ put buffer.old (35 * n) (claim_bytes c) }
 {
     let at = 35 * n;
-    writing::write_claim(&mut buffer[at..], c);
+    // There is room, so the writer refuses nothing.
+    let _ = writing::write_claim(&mut buffer[at..], c);
 }

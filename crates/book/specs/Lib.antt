@@ -1,3 +1,4 @@
 pub mod Book
 pub mod Loans
 pub mod Soundness
+pub mod Answered

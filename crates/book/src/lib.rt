@@ -5,6 +5,7 @@
 
 ghost use Rattle.std.specs.Prelude.{◌≡◌, ◌++◌, ◌≤◌, length, drop, replicate};
 ghost use Rattle.records.specs.Refusals.{refusal_number};
+ghost use Rattle.book.specs.Answered.{answered};
 
 use records::Refusal;
 
@@ -40,6 +41,17 @@ impl Done {
             number: refusal.number(),
             book,
             claims: 0,
+        }
+    }
+
+    // What a call answers on a book: its answer, or that to a refused call.
+    #[tactic(auto, unfolding(crate::specs::Answered::answered))]
+    pub fn answered(book: Book, call: Result<Done, Refusal>) -> Done
+        ensures { result ≡ answered book call }
+    {
+        match call {
+            Ok(done) => done,
+            Err(refusal) => Done::refused(refusal, book),
         }
     }
 }

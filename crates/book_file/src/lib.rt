@@ -9,16 +9,14 @@ fn take_words(bytes: &[u8], at: usize, words: &mut [u32])
     requires { at + 4 * length words.old ≤ length bytes.now }
     ensures { words.new ≡ words_in (length words.old) (drop at bytes.now) }
 {
-    let mut i: usize = 0;
-    while i < words.len() {
+    for i in 0..words.len() {
         words[i] = reading::u32_at(bytes, at + 4 * i);
-        i += 1;
     }
 }
 
 // Fills the calendar and the tables from the bytes of book.dat, and answers the opening's day.
-pub fn load(bytes: &[u8], calendar: &mut [u32], tables: &mut [u32]) -> u32
-    requires { (9220 ≤ length bytes.now) × (length calendar.old ≡ 480) × (length tables.old ≡ 1824) }
+pub fn load(bytes: &[u8], calendar: &mut [u32; 480], tables: &mut [u32; 1824]) -> u32
+    requires { 9220 ≤ length bytes.now }
     ensures { (calendar.new ≡ calendar_in bytes.now) × (tables.new ≡ tables_in bytes.now)
         × (result ≡ day_in bytes.now) }
 {

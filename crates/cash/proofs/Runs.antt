@@ -48,7 +48,7 @@ every_sum claims account date fit =
     }
 
 pub all_good : (claims : List Claim) → all is_good (map Some claims) ≡ all good_parties claims
-unfolding all is_good
+unfolding is_good
 all_good [] = refl
 all_good (c ∷ cs) = ap (λ (b : Bool). good_parties c && b) (all_good cs)
 
@@ -81,7 +81,7 @@ claim_fits s b h = rw (claim_decoded s) (decode_fit claim_kind.widths 4 s b h)
 
 taken : (n : ℕ) (s : List ℕ) → Bytes s → (length s + 34) / 35 ≡ n → all is_good (readings n s) ≡ true
     → (claims : List Claim) × RunOf s claims
-unfolding readings all bytes_of_all claim_bytes
+unfolding readings bytes_of_all claim_bytes
 taken zero s b e g = ([], record { bytes = nothing s (omega arith); fit = tt; good = refl })
 taken (suc n) s b e g =
     let r = good_record s (and_left (is_good (read_claim s)) (all is_good (readings n (drop 35 s))) g) in
@@ -122,7 +122,6 @@ readings_join (suc n) m s t e =
     (readings_join n m (drop 35 s) t (omega (arith, length-drop 35 s))))
 
 all_join : {A : Type 0} (p : A → Bool) (xs ys : List A) → all p (xs ++ ys) ≡ all p xs && all p ys
-unfolding all
 all_join p [] ys = refl
 all_join p (x ∷ xs) ys = ap (λ (b : Bool). p x && b) (all_join p xs ys) ∙ sym (and_assoc (p x) (all p xs) (all p ys))
 

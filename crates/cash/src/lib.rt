@@ -4,7 +4,7 @@
 
 // The cents to pay, to receive, and receive less pay.
 #[repr(C)]
-#[derive(Clone, Copy)]
+#[derive(Clone, Copy, Debug)]
 pub struct Cash {
     pub pay: f64,
     pub receive: f64,
@@ -13,7 +13,7 @@ pub struct Cash {
 
 // What a forecast answers: its number, and three zeros where that is not 0.
 #[repr(C)]
-#[derive(Clone, Copy)]
+#[derive(Clone, Copy, Debug)]
 pub struct CashForecast {
     pub number: u16,
     pub cash: Cash,

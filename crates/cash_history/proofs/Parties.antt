@@ -30,18 +30,17 @@ use Rattle.cash.specs.Cash.{good_parties}
 -- ---- lists made piece by piece
 
 all_map : {A B : Type 0} (p : B → Bool) (f : A → B) (xs : List A) → ((x : A) → p (f x) ≡ true) → all p (map f xs) ≡ true
-unfolding all
 all_map p f [] h = refl
 all_map p f (x ∷ xs) h = and_both (h x) (all_map p f xs h)
 
 all_runs : {B : Type 0} (p : B → Bool) (n : ℕ) (f : ℕ → List B) → ((i : ℕ) → i < n → all p (f i) ≡ true) → all p (each n f) ≡ true
 unfolding each
-all_runs p zero f h = unfold all in refl
+all_runs p zero f h = refl
 all_runs p (suc n) f h = all_append p (each n f) (f n) (all_runs p n f (λ i k. h i (omega arith))) (h n (omega arith))
 
 all_runs_of : {A B : Type 0} (p : B → Bool) (xs : List A) (f : A → List B) → ((x : A) → all p (f x) ≡ true) → all p (each_of xs f) ≡ true
 unfolding each_of
-all_runs_of p [] f h = unfold all in refl
+all_runs_of p [] f h = refl
 all_runs_of p (x ∷ xs) f h = all_append p (f x) (each_of xs f) (h x) (all_runs_of p xs f h)
 
 -- ---- claims
@@ -55,7 +54,7 @@ module _ (calendar tables : List ℕ) where
 
   good_loan : (day claim_type par s l b : ℕ) (row : Row) → l < 16 → b < 16 → (l ≡ b → par ≡ 0)
       → all good_parties (loan_claim calendar tables day claim_type row (loan_parties s l b) par) ≡ true
-  unfolding loan_claim loan_parties all
+  unfolding loan_claim loan_parties
   good_loan day claim_type par s l b row hl hb h = go (ltb 0 par) refl
     where
       go : (t : Bool) → ltb 0 par ≡ t

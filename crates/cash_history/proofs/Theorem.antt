@@ -9,6 +9,7 @@ use lib.Seq.{take_at}
 use Rattle.lists.specs.All.{all, all_append}
 use Rattle.lists.specs.First.{first_of}
 use Rattle.std.proofs.Common.{Option, Some, None}
+use Rattle.records.specs.declared.Claim.{Claim}
 use Rattle.claims.proofs.Passes.{all_length}
 use Rattle.claims.specs.Written.{bytes_of_all, written, readings}
 use Rattle.claims.proofs.Written.{readings_written}
@@ -50,7 +51,7 @@ module _ (calendar tables : List ℕ) where
         same = rw (front, readings_written claims (buffer_of call) fit) (records_of_all claims fit);
         good = rw (readings_written claims (buffer_of call) fit, all_good claims) (good_claims calendar tables (book_of t) (balances_of t) call e);
       }
-  handed t call (suc n) e = record { whole = refl; same = unfold records_of record_count readings in refl; good = unfold readings all in refl }
+  handed t call (suc n) e = record { whole = refl; same = unfold records_of record_count readings in refl; good = unfold readings in refl }
 
   -- ---- every list of calls
 
@@ -74,7 +75,7 @@ module _ (calendar tables : List ℕ) where
 
   good_all : (calls : List Call) (t : Ledger) → all is_good (records_in (judged calendar tables t calls).answers) ≡ true
   unfolding judged number_on
-  good_all [] t = unfold records_in all in refl
+  good_all [] t = unfold records_in in refl
   good_all (call ∷ calls) t =
       let n = number_for calendar tables (book_of t) (balances_of t) call in
       join_good (answer_for n calendar tables t call) _ (handed t call n refl) (good_all calls (keep n calendar t call))

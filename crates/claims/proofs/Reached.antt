@@ -148,9 +148,9 @@ module _ (calendar tables : List ℕ) (day : ℕ) (t : Transfer) where
 
   module _ (sound : good_tables calendar tables ≡ true) (held : t.security < 16) where
     -- claims on the rows ask no more than is there
-    pub claiming : length calendar ≡ 480 → length tables ≡ 1824 → t.sender < 16 → Claiming calendar tables t
-    claiming c l p =
-        record { months = c; words = l; held = held; paying = p; interest = λ i h. (at i h).0; principal = λ i h. (at i h).1 }
+    pub claiming : t.sender < 16 → Claiming tables t
+    claiming p =
+        record { held = held; paying = p; interest = λ i h. (at i h).0; principal = λ i h. (at i h).1 }
       where
         at : (i : ℕ) → i < 16 → ((row_at tables t.security i).interest_factor ≤ 2000000000) × ((row_at tables t.security i).principal_factor ≤ 2000000000)
         at i h =

@@ -16,7 +16,7 @@ use Rattle.lists.specs.Select.{select, select_both, all_drop}
 use Rattle.lists.specs.Tabulate.{each, each_of}
 use Rattle.days.specs.Days.{open_after, last_open}
 use Rattle.records.specs.declared.Claim.{Claim}
-use Rattle.securities.specs.Securities.{row_of, rows_from, rows_of, security_of, is_empty, is_filled, filled_rows, good_row, good_tables}
+use Rattle.securities.specs.Securities.{row_at as table_row, row_of, rows_from, rows_of, security_of, is_empty, is_filled, filled_rows, good_row, good_tables}
 use Rattle.securities.specs.declared.Row.{Row}
 use Rattle.securities.proofs.Sound.{Good, good_row_lem, sound_rows}
 use Rattle.claims.specs.Amounts.{claim_on}
@@ -253,32 +253,6 @@ filled_good calendar tables s i t hs hi f =
     (all_chosen (good_row (last_open calendar)) is_filled rows (row_of 0 []) (sound_rows calendar tables s t hs).good i n
     (subst (λ (row : Row). is_filled row ≡ true) (sym e) f)))
 
--- a row of the tables has seven words
-pub seven_words : {calendar tables : List ℕ} {day next s i : ℕ} {row : List ℕ} → Sound calendar tables day next s i row → length row ≡ 7
-seven_words {calendar} {tables} {day} {next} {s} {i} {row} k =
-    let n = k.numbered in
-    let e = security_length tables s k.close.table_words_lem k.known in
-    ap length k.words ∙ part_length (2 + 7 * i) 7 (security_of tables s) (omega arith)
-
--- so a row that is crossed is ready for its claims
-pub crossed_ready : (calendar tables : List ℕ) (day next s i : ℕ) (row : List ℕ) → Sound calendar tables day next s i row
-    → day < get_or row 0 0 → get_or row 0 0 ≤ next → Ready calendar tables row s
-unfolding row_of
-crossed_ready calendar tables day next s i row k h l =
-    let c : crosses day next (row_of i row) ≡ true = unfold crosses in rw (lt-ltb day (get_or row 0 0) h, le-leb (get_or row 0 0) next l) in
-    let f : is_filled (row_of i row) ≡ true = crossed_filled day next (row_of i row) c in
-    let g : Good (last_open calendar) (row_of i row)
-    = subst (λ (ws : List ℕ). Good (last_open calendar) (row_of i ws)) (sym k.words)
-    (filled_good calendar tables s i k.close.table_rules k.known k.numbered (subst (λ (ws : List ℕ). is_filled (row_of i ws) ≡ true) k.words f)) in
-    record {
-      calendar_words_lem = k.close.calendar_words_lem;
-      table_words_lem = k.close.table_words_lem;
-      row_words_lem = seven_words k;
-      known = k.known;
-      interest = g.interest;
-      principal = g.principal;
-    }
-
 -- the words of a row stand in its security's words
 pub row_words_lem : (tables : List ℕ) (s i a : ℕ) → i < 16 → a ≡ 114 * s + 2 + 7 * i → part a 7 tables ≡ part (2 + 7 * i) 7 (security_of tables s)
 unfolding security_of
@@ -286,3 +260,26 @@ row_words_lem tables s i a h e =
     let d : 114 * s + (2 + 7 * i) ≡ a = omega arith in
     ap (λ (k : ℕ). take 7 (drop k tables)) (sym d) ∙ ap (take 7) (sym (drop-drop (2 + 7 * i) (114 * s) tables))
     ∙ sym (part_take (2 + 7 * i) 7 114 (drop (114 * s) tables) (omega arith))
+
+-- so the row with a number, in its place in the tables, is that of its security's words
+place_lem : (tables : List ℕ) (s i : ℕ) → i < 16 → table_row tables s i ≡ row_of i (part (2 + 7 * i) 7 (security_of tables s))
+unfolding table_row
+place_lem tables s i h = ap (row_of i) (row_words_lem tables s i (114 * s + 2 + 7 * i) h refl)
+
+pub security_rows : (calendar tables : List ℕ) (day next s : ℕ) (balances : List ℕ) → next ≡ open_after calendar day
+    → security_claims calendar tables day s balances ≡ each 16 (λ i. turn_claims calendar tables day next s balances (table_row tables s i))
+security_rows calendar tables day next s balances e =
+    security_turns calendar tables day next s balances e
+    ∙ each_agree _ _ 16 (λ i h. ap (turn_claims calendar tables day next s balances) (sym (place_lem tables s i h)))
+
+-- a row that is crossed is ready for its claims
+pub crossed_ready : (calendar tables : List ℕ) (day next s : ℕ) (row : Row) → Sound calendar tables day next s row
+    → day < row.record_date → row.record_date ≤ next → Ready s row
+crossed_ready calendar tables day next s row k h l =
+    let i = row.index in
+    let c : crosses day next row ≡ true = unfold crosses in rw (lt-ltb day row.record_date h, le-leb row.record_date next l) in
+    let e : row ≡ row_of i (part (2 + 7 * i) 7 (security_of tables s)) = k.here ∙ place_lem tables s i k.numbered in
+    let f = crossed_filled day next row c in
+    let g : Good (last_open calendar) row
+    = subst (Good (last_open calendar)) (sym e) (filled_good calendar tables s i k.close.table_rules k.known k.numbered (subst (λ (r : Row). is_filled r ≡ true) e f)) in
+    record { known = k.known; interest = g.interest; principal = g.principal }

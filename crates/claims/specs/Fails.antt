@@ -1,12 +1,12 @@
 -- Document 01, section Fail claims, and document 02, card 1, interim claims, card 2, long-delay pools, card 5, date limits, and card 7, days
 -- before the 2023 memo: the rows that a transfer claims. S is the book's day, C the Contract Date.
-use Rattle.std.specs.Prelude.{Bool, cond, ◌&&◌, List, [], ◌∷◌, ◌++◌, map, ℕ, eqb, ltb, leb, get_or}
+use Rattle.std.specs.Prelude.{Bool, cond, ◌&&◌, List, [], ◌∷◌, ◌++◌, map, ℕ, eqb, ltb, leb}
 use Rattle.lists.specs.Select.{select, last_of, keep_first}
 use Rattle.days.specs.MemoDay.{before_memo, six_months_before}
 use Rattle.records.specs.declared.Claim.{Claim}
 use Rattle.records.specs.declared.Transfer.{Transfer}
 use Rattle.records.specs.MessageRecords.{first_line, second_line}
-use Rattle.securities.specs.Securities.{security_of, type_of, frequency_of, filled_rows}
+use Rattle.securities.specs.Securities.{security_of, type_of, filled_rows}
 use Rattle.securities.specs.declared.Row.{Row}
 unfoldable pub use Rattle.securities.specs.Lent.{is_mbs, maximum_for, maximum_of}
 use Rattle.tags.specs.declared.Tag.{Tag}

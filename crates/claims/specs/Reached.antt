@@ -1,10 +1,9 @@
 -- The rows of a security in their places in the tables, those that a day has reached by either date, and the first of these that waits.
 -- Contracts of private functions cite these; the laws of proofs/Reached tie them to the sections' definitions.
-use Rattle.std.specs.Prelude.{◌≡◌, Bool, cond, not, ◌&&◌, List, [], ◌∷◌, ℕ, zero, suc, ◌+◌, ◌-◌, ◌*◌, ◌≤◌, ◌<◌, ltb, leb, length, take, drop}
-use Rattle.lists.specs.Fields.{part}
+use Rattle.std.specs.Prelude.{Bool, cond, not, ◌&&◌, List, [], ◌∷◌, ℕ, zero, suc, ◌+◌, ◌-◌, ◌≤◌, ◌<◌, ltb, leb, take, drop}
 use Rattle.lists.specs.Select.{first_key}
 use Rattle.records.specs.declared.Transfer.{Transfer}
-use Rattle.securities.specs.Securities.{security_of, type_of, row_of, rows_of}
+use Rattle.securities.specs.Securities.{security_of, type_of, rows_of}
 use Rattle.securities.specs.declared.Row.{Row}
 unfoldable pub use Rattle.securities.specs.Securities.{row_at}
 use Rattle.claims.specs.Fails.{is_mbs, waits}
@@ -73,10 +72,8 @@ first_before tables s day = cond (is_mbs (type_of (security_of tables s))) 0 (re
 
 -- ---- claims on rows
 
--- What claims on the rows of a transfer's security ask: words of their lengths, a security and a sender of the book, and factors in range.
-pub record Claiming (calendar tables : List ℕ) (t : Transfer) : Type 0 where
-  pub months : length calendar ≡ 480
-  pub words : length tables ≡ 1824
+-- What claims on the rows of a transfer's security ask: a security and a sender of the book, and factors in range.
+pub record Claiming (tables : List ℕ) (t : Transfer) : Type 0 where
   pub held : t.security < 16
   pub paying : t.sender < 16
   pub interest : (i : ℕ) → i < 16 → (row_at tables t.security i).interest_factor ≤ 2000000000

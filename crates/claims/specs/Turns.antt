@@ -1,10 +1,9 @@
 -- The claims of a close turn by turn, as the loops of its code make them: what each level asks and gives.
-use Rattle.std.specs.Prelude.{◌≡◌, Bool, true, cond, List, [], ℕ, ◌+◌, ◌*◌, ◌≤◌, ◌<◌, leb, length, get_or}
-use Rattle.lists.specs.Fields.{part}
+use Rattle.std.specs.Prelude.{◌≡◌, Bool, true, cond, List, [], ℕ, ◌≤◌, ◌<◌, leb, get_or}
 use Rattle.lists.specs.Tabulate.{each, each_of}
 use Rattle.days.specs.Days.{open_after}
 use Rattle.records.specs.declared.Claim.{Claim}
-use Rattle.securities.specs.Securities.{security_of, good_tables}
+use Rattle.securities.specs.Securities.{row_at, good_tables}
 use Rattle.securities.specs.declared.Row.{Row}
 use Rattle.claims.specs.Close.{crosses, crossed, loan_parties, loan_claim, row_claims}
 
@@ -12,28 +11,23 @@ use Rattle.claims.specs.Close.{crosses, crossed, loan_parties, loan_claim, row_c
 unfoldable pub small : ℕ → Bool
 small par = leb par 9000000000
 
--- What a claim on a row of a security asks: lengths, and factors in range.
-pub record Ready (calendar tables row : List ℕ) (security : ℕ) : Type 0 where
-  pub calendar_words_lem : length calendar ≡ 480
-  pub table_words_lem : length tables ≡ 1824
-  pub row_words_lem : length row ≡ 7
+-- What claims on a row of a security ask: a security of the book, and factors in range.
+pub record Ready (security : ℕ) (row : Row) : Type 0 where
   pub known : security < 16
-  pub interest : get_or row 3 0 ≤ 2000000000
-  pub principal : get_or row 4 0 ≤ 2000000000
+  pub interest : row.interest_factor ≤ 2000000000
+  pub principal : row.principal_factor ≤ 2000000000
 
--- What a close that goes on to the next open day asks: sound calendar and tables.
+-- What a close that goes on to the next open day asks: sound tables.
 pub record SoundClose (calendar tables : List ℕ) (day next : ℕ) : Type 0 where
-  pub calendar_words_lem : length calendar ≡ 480
-  pub table_words_lem : length tables ≡ 1824
   pub table_rules : good_tables calendar tables ≡ true
   pub next_day : next ≡ open_after calendar day
 
 -- What it asks of a row of the tables.
-pub record Sound (calendar tables : List ℕ) (day next security index : ℕ) (row : List ℕ) : Type 0 where
+pub record Sound (calendar tables : List ℕ) (day next security : ℕ) (row : Row) : Type 0 where
   pub close : SoundClose calendar tables day next
   pub known : security < 16
-  pub numbered : index < 16
-  pub words : row ≡ part (2 + 7 * index) 7 (security_of tables security)
+  pub numbered : row.index < 16
+  pub here : row ≡ row_at tables security row.index
 
 -- The claims of a lender on a row, by borrower.
 unfoldable pub lender_claims : List ℕ → List ℕ → ℕ → ℕ → Row → ℕ → ℕ → List ℕ → List Claim

@@ -1,20 +1,23 @@
 -- What the forecast answers, from the tests of the code.
-use mathlib.Core.Path.{◌≡◌, refl, sym, ◌∙◌}
-use mathlib.Core.Logic.{◌≢◌}
-use mathlib.Core.Bool.{Bool, true, false}
+use mathlib.Core.Path.{◌≡◌, refl, sym, ap, ◌∙◌}
+use mathlib.Core.Bool.{Bool, true, false, cond, ◌||◌, true≢false}
 use mathlib.Core.List.{List}
-use Prim.Native.Nat.{ℕ, zero, suc, ◌+◌, ◌≤◌, min}
+use Prim.Native.Nat.{ℕ, zero, suc, ◌+◌, ◌≤◌, ◌<◌, min}
 use native.Mathlib.Omega.{arith}
 use lib.Dec.{ltb}
 use borrow.Author.Tests.{lt-ltb, le-ltb, ltb-false, ltb-true}
+use Rattle.std.proofs.Common.{Ok, Err}
 use Rattle.lists.specs.First.{first_of}
+use Rattle.records.specs.declared.Refusal.{Refusal}
+use Rattle.records.specs.declared.Refusal.TheVariants as refusal
+use Rattle.records.specs.Refusals.{refusal_number}
+use Rattle.records.proofs.Refusals.{above_zero}
 use Rattle.cash.specs.declared.Cash.{Cash}
-use Rattle.cash.specs.declared.CashForecast.{CashForecast}
 use Rattle.forecast.specs.declared.Sums.{Sums}
-use Rattle.cash.specs.Cash.{exact_limit, cents_to_pay, cents_to_receive, bad_wanted, past_limit, number_causes, forecast_causes, forecast_number}
-use Rattle.cash.specs.Cash.{whole_cash, as_doubles, figures_for, figures, forecast_of}
-use Rattle.cash.proofs.Theorem.{within_limit}
-use Rattle.forecast.specs.Adding.{capped, sums_of}
+use Rattle.cash.specs.Cash.{exact_limit, bad_run, cents_to_pay, cents_to_receive, bad_wanted, past_limit, number_causes, forecast_causes, forecast_number}
+use Rattle.cash.specs.Cash.{WholeCash, whole_cash, as_doubles, figures_for, figures, forecast_of}
+use Rattle.forecast.specs.Adding.{capped, sums_of, answered}
+use Rattle.forecast.proofs.Summing.{totals}
 
 -- ---- a sum that is held by the first number past the limit is past it where the sum is
 
@@ -30,50 +33,74 @@ capped_within : (n : ℕ) → capped n ≤ exact_limit → capped n ≡ n
 unfolding capped
 capped_within n h = omega arith
 
--- ---- the number
+-- ---- the answer
 
-pub sums_within : (sums : Sums) {past : Bool} {number : ℕ} → past ≡ past_limit sums.pay sums.receive
-    → number ≡ first_of (number_causes sums.bad past) → number ≡ 0
-    → (sums.pay ≤ exact_limit) × (sums.receive ≤ exact_limit)
-sums_within sums p n z = within_limit sums.bad sums.pay sums.receive (rw p at (sym n ∙ z))
+pub sums_within : (sums : Sums) → past_limit sums.pay sums.receive ≡ false → (sums.pay ≤ exact_limit) × (sums.receive ≤ exact_limit)
+unfolding past_limit
+sums_within sums p = (ltb-false _ _ (or_left _ _ p), ltb-false _ _ (or_right _ _ p))
+  where
+    or_left : (a b : Bool) → a || b ≡ false → a ≡ false
+    or_left false b e = refl
+    or_left true b e = e
+
+    or_right : (a b : Bool) → a || b ≡ false → b ≡ false
+    or_right false b e = e
+    or_right true b e = absurd (true≢false e)
 
 module _ (run : List ℕ) (account date : ℕ) where
-  wanted_bad : bad_wanted account date ≡ true → forecast_number run account date ≡ 18
-  unfolding forecast_number forecast_causes number_causes first_of
-  wanted_bad w = rw w
+  no_figures : (m : ℕ) → 0 < m → figures_for m run account date ≡ whole_cash 0 0
+  unfolding figures_for
+  no_figures zero l = absurd (omega arith)
+  no_figures (suc m) l = refl
 
-  refusal : (n : ℕ) → forecast_number run account date ≡ suc n
-      → record { number = suc n; cash = as_doubles (whole_cash 0 0) } ≡ forecast_of run account date
-  unfolding forecast_of figures figures_for
-  refusal n h = rw h
+  -- a number above 0 leaves three zeros
+  refusal_answer : (r : Refusal) {n : ℕ} → refusal_number r ≡ n → forecast_number run account date ≡ n → answered (Err r) ≡ forecast_of run account date
+  unfolding answered forecast_of figures
+  refusal_answer r {n} e h = rw (e, h) (ap (λ (w : WholeCash). record { number = n; cash = as_doubles w }) (sym (no_figures n (rw (← e) (above_zero r)))))
 
-  -- ---- the answer
+  pub wanted_refused : bad_wanted account date ≡ true → answered (Err refusal.Claims) ≡ forecast_of run account date
+  unfolding forecast_number forecast_causes number_causes first_of refusal_number
+  wanted_refused w = refusal_answer refusal.Claims refl (rw w refl)
 
-  pub wanted_refused : {f : CashForecast} → bad_wanted account date ≡ true → f ≡ record { number = 18; cash = as_doubles (whole_cash 0 0) }
-      → f ≡ forecast_of run account date
-  wanted_refused w e = e ∙ refusal 17 (wanted_bad w)
-
-  module _ (w : bad_wanted account date ≡ false) {sums : Sums} (e : sums ≡ sums_of run account date) {past : Bool} {number : ℕ}
-      (p : past ≡ past_limit sums.pay sums.receive) (n : number ≡ first_of (number_causes sums.bad past)) where
-    -- the number of the sums is that of the forecast
-    sums_number : number ≡ forecast_number run account date
-    unfolding sums_of forecast_number forecast_causes past_limit
-    sums_number = n ∙ rw (p, e, w, capped_past (cents_to_pay run account date), capped_past (cents_to_receive run account date))
-
-    pub refused_answer : {f : CashForecast} → number ≢ 0 → f ≡ record { number = number; cash = as_doubles (whole_cash 0 0) }
-        → f ≡ forecast_of run account date
-    refused_answer h q = q ∙ go number h sums_number
+  module _ (w : bad_wanted account date ≡ false) where
+    -- a bad record
+    pub record_refused : {f : Refusal} → Err f ≡ sums_of run account date → answered (Err f) ≡ forecast_of run account date
+    unfolding sums_of forecast_number forecast_causes number_causes first_of refusal_number
+    record_refused {f} e = go (bad_run run) refl e
       where
-        go : (m : ℕ) → m ≢ 0 → m ≡ forecast_number run account date
-            → record { number = m; cash = as_doubles (whole_cash 0 0) } ≡ forecast_of run account date
-        go zero h k = absurd (h refl)
-        go (suc m) h k = refusal m (sym k)
+        go : (b : Bool) → bad_run run ≡ b → Err f ≡ cond b (Err refusal.Claims) (Ok (totals run account date))
+            → answered (Err f) ≡ forecast_of run account date
+        go true b q = let s : f ≡ refusal.Claims = cc in rw s (refusal_answer refusal.Claims refl (rw (w, b) refl))
+        go false b q = absurd (let z : ◌≡◌ {A = ℕ} 0 1 = cc in omega arith)
 
-    pub accepted_answer : {cash : Cash} → number ≡ 0 → cash ≡ as_doubles (whole_cash sums.pay sums.receive)
-        → record { number = number; cash = cash } ≡ forecast_of run account date
-    unfolding sums_of forecast_of figures figures_for
-    accepted_answer {cash} z q =
-        let l = sums_within sums p n z in
-        let pay = capped_within (cents_to_pay run account date) (rw e at l.0) in
-        let receive = capped_within (cents_to_receive run account date) (rw e at l.1) in
-        rw (z, q, e, pay, receive, sym sums_number ∙ z)
+    module _ {sums : Sums} (e : Ok sums ≡ sums_of run account date) where
+      -- no bad record
+      good_sums : (bad_run run ≡ false) × (sums ≡ totals run account date)
+      unfolding sums_of
+      good_sums = go (bad_run run) refl e
+        where
+          go : (b : Bool) → bad_run run ≡ b → Ok sums ≡ cond b (Err refusal.Claims) (Ok (totals run account date))
+              → (bad_run run ≡ false) × (sums ≡ totals run account date)
+          go true b q = absurd (let z : ◌≡◌ {A = ℕ} 0 1 = cc in omega arith)
+          go false b q = (b, cc)
+
+      past_is : {b : Bool} → past_limit sums.pay sums.receive ≡ b → past_limit (cents_to_pay run account date) (cents_to_receive run account date) ≡ b
+      unfolding past_limit
+      past_is p =
+          rw (← capped_past (cents_to_pay run account date), ← capped_past (cents_to_receive run account date))
+          (rw (good_sums.1) at p)
+
+      -- a sum past the limit
+      pub sum_refused : past_limit sums.pay sums.receive ≡ true → answered (Err refusal.Sum) ≡ forecast_of run account date
+      unfolding forecast_number forecast_causes number_causes first_of refusal_number
+      sum_refused p = refusal_answer refusal.Sum refl (rw (w, good_sums.0, past_is p) refl)
+
+      -- sums that are exact
+      pub accepted_answer : {cash : Cash} → past_limit sums.pay sums.receive ≡ false → cash ≡ as_doubles (whole_cash sums.pay sums.receive)
+          → answered (Ok cash) ≡ forecast_of run account date
+      unfolding answered forecast_of figures figures_for forecast_number forecast_causes number_causes first_of
+      accepted_answer {cash} p q =
+          let l = sums_within sums p in
+          let pay : sums.pay ≡ cents_to_pay run account date = ap (λ (s : Sums). s.pay) good_sums.1 ∙ capped_within (cents_to_pay run account date) (rw good_sums.1 at l.0) in
+          let receive : sums.receive ≡ cents_to_receive run account date = ap (λ (s : Sums). s.receive) good_sums.1 ∙ capped_within (cents_to_receive run account date) (rw good_sums.1 at l.1) in
+          rw (w, good_sums.0, past_is p, q, pay, receive) refl

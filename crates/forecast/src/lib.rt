@@ -2,21 +2,19 @@
 // and their difference, as doubles. The definitions are those of the crate cash. Every run is taken, of any length.
 #![tactic(auto)]
 
-ghost use Rattle.std.specs.Prelude.{◌≡◌, cond, not, ◌&&◌, ◌||◌, ◌+◌, ◌≤◌, ◌<◌, min, eqb};
-ghost use Rattle.lists.specs.First.{first_of};
-ghost use Rattle.claims.specs.Written.{claim_size, read_claim};
-ghost use Rattle.cash.specs.Cash.{good_parties, counts, cents_of, exact_limit, bad_wanted, past_limit, number_causes};
+ghost use Rattle.std.specs.Prelude.{◌≡◌, cond, ◌&&◌, ◌+◌, ◌≤◌, eqb};
+ghost use Rattle.claims.specs.Written.{read_claim};
+ghost use Rattle.cash.specs.Cash.{good_parties, counts, cents_of, exact_limit, bad_wanted, past_limit};
 ghost use Rattle.cash.specs.Cash.{whole_cash, as_doubles, forecast_of};
-ghost use Rattle.forecast.specs.Adding.{capped, with_read, sums_of};
+ghost use Rattle.forecast.specs.Adding.{capped, with_read, sums_of, answered};
 
 use cash::{Cash, CashForecast};
-use days::{Checked, Date};
-use records::{Cents, Claim, ReadClaim};
+use days::Date;
+use records::{Cents, Claim, Refusal};
 
-// The sums of an account over records, and whether one of these is bad.
-#[derive(Clone, Copy)]
+// The sums of an account over records.
+#[derive(Clone, Copy, Debug, PartialEq, Eq)]
 pub struct Sums {
-    pub bad: bool,
     pub pay: u64,
     pub receive: u64,
 }
@@ -69,62 +67,34 @@ fn good_parties(c: Claim) -> bool
     c.payee <= 15
 }
 
-// Whether there is a bad record, where there was one before or the next is not good.
-fn bad_with(before: bool, good: bool) -> bool
-    ensures { result ≡ (before || not good) }
-{
-    if before {
-        return true;
-    }
-    !good
-}
-
-// The sums with the record at the start of some bytes. What is no record adds nothing, and is bad.
-fn with_record(sums: Sums, bytes: &[u8], account: u32, date: u32) -> Sums
+// The sums with the record at the start of some bytes, unless that is bad.
+fn with_record(sums: Sums, bytes: &[u8], account: u32, date: u32) -> Result<Sums, Refusal>
     requires { (sums.pay ≤ exact_limit + 1) × (sums.receive ≤ exact_limit + 1) }
     ensures { result ≡ with_read sums (read_claim bytes.now) account date }
 {
-    let ReadClaim::Is(c) = reading::read_claim(bytes) else {
-        return Sums {
-            bad: true,
-            pay: sums.pay,
-            receive: sums.receive,
-        };
+    let Some(c) = reading::read_claim(bytes) else {
+        return Err(Refusal::Claims);
     };
-    Sums {
-        bad: bad_with(sums.bad, good_parties(c)),
+    if !good_parties(c) {
+        return Err(Refusal::Claims);
+    }
+    Ok(Sums {
         pay: with_claim(sums.pay, c, c.payer, account, date),
         receive: with_claim(sums.receive, c, c.payee, account, date),
-    }
+    })
 }
 
-// The place behind the record that begins at a place: the end of the bytes where it is cut.
-fn behind(at: usize, end: usize) -> usize
-    requires { at < end }
-    ensures { result ≡ min end (at + claim_size) }
-{
-    if end - at < CLAIM_BYTES {
-        end
-    } else {
-        at + CLAIM_BYTES
-    }
-}
-
-// The sums of an account over a run of claim records, in one pass.
-fn sums_of(claims: &[u8], account: u32, date: u32) -> Sums
+// The sums of an account over a run of claim records, in one pass, unless a record is bad.
+fn sums_of(claims: &[u8], account: u32, date: u32) -> Result<Sums, Refusal>
     ensures { result ≡ sums_of claims.now account date }
 {
-    let mut sums = Sums {
-        bad: false,
-        pay: 0,
-        receive: 0,
-    };
-    let mut at: usize = 0;
-    while at < claims.len() {
-        sums = with_record(sums, &claims[at..], account, date);
-        at = behind(at, claims.len());
+    let mut sums = Sums { pay: 0, receive: 0 };
+    let mut rest = claims;
+    while !rest.is_empty() {
+        sums = with_record(sums, rest, account, date)?;
+        rest = &rest[CLAIM_BYTES.min(rest.len())..];
     }
-    sums
+    Ok(sums)
 }
 
 // Whole cents as doubles, without loss, with their difference.
@@ -141,16 +111,6 @@ fn cash_of(pay: Cents, receive: Cents) -> Cash
     }
 }
 
-// A refusal: the number, and three zeros.
-fn refused(number: u16) -> CashForecast
-    ensures { result ≡ record { number = number; cash = as_doubles (whole_cash 0 0) } }
-{
-    CashForecast {
-        number,
-        cash: cash_of(Cents(0), Cents(0)),
-    }
-}
-
 // Whether the account is above 15 or the date is none.
 fn bad_wanted(account: u32, date: u32) -> bool
     ensures { result ≡ bad_wanted account date }
@@ -158,49 +118,42 @@ fn bad_wanted(account: u32, date: u32) -> bool
     if 15 < account {
         return true;
     }
-    match Date::new(date) {
-        Checked::Is(_) => false,
-        Checked::Not => true,
-    }
+    Date::new(date).is_none()
 }
 
 // Whether one of the sums is past the limit.
-fn past_limit(pay: u64, receive: u64) -> bool
-    ensures { result ≡ past_limit pay receive }
+fn past_limit(sums: Sums) -> bool
+    ensures { result ≡ past_limit sums.pay sums.receive }
 {
-    if LIMIT < pay {
+    if LIMIT < sums.pay {
         return true;
     }
-    LIMIT < receive
+    LIMIT < sums.receive
 }
 
-// The number 18 where something is bad, else 19 where a sum is past the limit, else 0.
-fn number_of(bad: bool, past: bool) -> u16
-    ensures { result ≡ first_of (number_causes bad past) }
+// The figures of an account for a release date, from a run of claim records.
+fn figures(claims: &[u8], account: u32, date: u32) -> Result<Cash, Refusal>
+    ensures { answered result ≡ forecast_of claims.now account date }
 {
-    if bad {
-        return 18;
+    if bad_wanted(account, date) {
+        return Err(Refusal::Claims);
     }
-    if past {
-        return 19;
+    let sums = sums_of(claims, account, date)?;
+    if past_limit(sums) {
+        return Err(Refusal::Sum);
     }
-    0
+    Ok(cash_of(Cents(sums.pay), Cents(sums.receive)))
 }
 
 // The cash forecast of an account for a release date, from a run of claim records. Refused, with 18 or 19, it has three zeros.
 pub fn forecast(claims: &[u8], account: u32, date: u32) -> CashForecast
     ensures { result ≡ forecast_of claims.now account date }
 {
-    if bad_wanted(account, date) {
-        return refused(18);
-    }
-    let sums = sums_of(claims, account, date);
-    let number = number_of(sums.bad, past_limit(sums.pay, sums.receive));
-    if number != 0 {
-        return refused(number);
-    }
-    CashForecast {
-        number,
-        cash: cash_of(Cents(sums.pay), Cents(sums.receive)),
+    match figures(claims, account, date) {
+        Ok(cash) => CashForecast { number: 0, cash },
+        Err(refusal) => CashForecast {
+            number: refusal.number(),
+            cash: cash_of(Cents(0), Cents(0)),
+        },
     }
 }

@@ -22,7 +22,7 @@ use Rattle.history.proofs.Opened.{opened_causes}
 -- ---- ones
 
 good_ones : good_pieces ones ≡ true
-unfolding good_pieces ones from_one_to all
+unfolding good_pieces ones from_one_to
 good_ones = refl
 
 -- the piece of every security is one

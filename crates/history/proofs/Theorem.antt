@@ -9,6 +9,7 @@ use native.Mathlib.Omega.{arith}
 use lib.ListN.{length, get_or, replicate, length-replicate, get_or-replicate}
 use Rattle.lists.specs.Sums.{sum, sum_append}
 use Rattle.std.proofs.Common.{Option, Some, None}
+use Rattle.records.specs.declared.Claim.{Claim}
 use Rattle.records.specs.MessageRecords.{transfer_of}
 use Rattle.securities.specs.Securities.{good_tables}
 use Rattle.securities.specs.declared.Row.{Row}

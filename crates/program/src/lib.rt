@@ -8,7 +8,7 @@ use book::Book;
 // What claimrun holds after a step: the book; how many bytes of the input buffer, from its start, are not worked yet; how many bytes of the
 // output buffer, from its start, are to be written; whether the input has ended; whether the run is over; and whether more input is asked
 // for.
-#[derive(Clone, Copy)]
+#[derive(Clone, Copy, Debug, PartialEq, Eq)]
 pub struct Held {
     pub book: Book,
     pub left: usize,

@@ -12,12 +12,12 @@ pub struct Dollars(pub u64);
 
 // An amount in cents.
 #[repr(C)]
-#[derive(Clone, Copy, Debug, PartialEq, Eq)]
+#[derive(Clone, Copy, Debug, Default, PartialEq, Eq)]
 pub struct Cents(pub u64);
 
 // The fields of a transfer; its two lines of free text stay in the message.
 #[repr(C)]
-#[derive(Clone, Copy, Debug, PartialEq, Eq)]
+#[derive(Clone, Copy, Debug, Default, PartialEq, Eq)]
 pub struct Transfer {
     pub sender: u8,
     pub receiver: u8,
@@ -38,7 +38,7 @@ impl Transfer {
 
 // The fields of a claim.
 #[repr(C)]
-#[derive(Clone, Copy, Debug, PartialEq, Eq)]
+#[derive(Clone, Copy, Debug, Default, PartialEq, Eq)]
 pub struct Claim {
     pub claim_type: u8,
     pub outcome: u8,
@@ -55,7 +55,7 @@ pub struct Claim {
 
 // The field of an answer.
 #[repr(C)]
-#[derive(Clone, Copy, Debug, PartialEq, Eq)]
+#[derive(Clone, Copy, Debug, Default, PartialEq, Eq)]
 pub struct Answer {
     pub number: u16,
 }

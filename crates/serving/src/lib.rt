@@ -12,7 +12,8 @@ ghost use Rattle.stream.specs.Stream.{next, claim_room, call_with, answer_bytes}
 ghost use Rattle.stream.specs.Serving.{worked, working, serving, is_full, left_served, leaves_for, leaves};
 
 use book::{Book, Done};
-use records::{Answer, ReadClose};
+use judging::Market;
+use records::{Answer, Refusal};
 use stream::{Next, Served, Worked};
 
 // The size of a record's claim buffer.
@@ -68,22 +69,16 @@ fn next_record(input: &[u8], ended: bool) -> Next
 }
 
 // The call that a record asks for, on a sound book.
-fn call(
-    calendar: &[u32],
-    tables: &[u32],
-    book: Book,
-    balances: &mut [u64],
-    message: &[u8],
-    claims: &mut [u8],
-) -> Done
-    requires { first_of (book_causes calendar.now tables.now book.day balances.old) ≡ 0 }
-    ensures { Gives calendar.now tables.now book balances.old
+fn call(market: &Market<'_>, book: Book, balances: &mut [u64], message: &[u8], claims: &mut [u8]) -> Done
+    requires { first_of (book_causes market.now.calendar market.now.tables book.day balances.old) ≡ 0 }
+    ensures { Gives market.now.calendar market.now.tables book balances.old
         (call_with claims.old message.now) result claims.new balances.new }
 {
-    if let ReadClose::Is = reading::read_close(message) {
-        return closes::close_sound(calendar, tables, book, balances, message, claims);
+    if reading::read_close(message) {
+        closes::close_sound(market, book, balances, message, claims)
+    } else {
+        transfers::transfer_sound(market, book, balances, message, claims)
     }
-    transfers::transfer_sound(calendar, tables, book, balances, message, claims)
 }
 
 // Writes an answer at a place of the output.
@@ -91,31 +86,24 @@ pub fn put_answer(output: &mut [u8], at: usize, number: u16)
     requires { at + 6 ≤ length output.old }
     ensures { output.new ≡ put output.old at (answer_bytes number) }
 {
-    writing::write_answer(&mut output[at..], Answer { number });
+    let _ = writing::write_answer(&mut output[at..], Answer { number });
 }
 
 // Works a record on a sound book, in a claim buffer of 64 KiB: its claims and then its answer are written from the output's start.
 fn work(
-    calendar: &[u32],
-    tables: &[u32],
+    market: &Market<'_>,
     book: Book,
     balances: &mut [u64],
     message: &[u8],
     output: &mut [u8],
     room: usize,
 ) -> Worked
-    requires { (first_of (book_causes calendar.now tables.now book.day balances.old) ≡ 0) × (65542 ≤ length output.old) × (room ≡ claim_room) }
+    requires { (first_of (book_causes market.now.calendar market.now.tables book.day balances.old) ≡ 0) × (65542 ≤ length output.old)
+        × (room ≡ claim_room) }
     ensures { worked result balances.new output.new
-        ≡ working calendar.now tables.now book balances.old message.now output.old }
+        ≡ working market.now.calendar market.now.tables book balances.old message.now output.old }
 {
-    let done = call(
-        calendar,
-        tables,
-        book,
-        balances,
-        message,
-        &mut output[..room],
-    );
+    let done = call(market, book, balances, message, &mut output[..room]);
     let after = done.book;
     let n = 35 * done.claims;
     put_answer(output, n, done.number);
@@ -142,18 +130,17 @@ fn sound_run(book: Book, consumed: usize, written: usize, over: bool, room: usiz
 
 // Serves a run of input on a sound book: numbers 1 to 4 do not apply.
 fn serve_sound(
-    calendar: &[u32],
-    tables: &[u32],
+    market: &Market<'_>,
     book: Book,
     balances: &mut [u64],
     input: &[u8],
     ended: bool,
     output: &mut [u8],
 ) -> Served
-    requires { first_of (book_causes calendar.now tables.now book.day balances.old) ≡ 0 }
+    requires { first_of (book_causes market.now.calendar market.now.tables book.day balances.old) ≡ 0 }
     ensures { left_served result balances.new output.new
         ≡ leaves_for 0 book balances.old output.old
-        (serving calendar.now tables.now ended book balances.old input.now
+        (serving market.now.calendar market.now.tables ended book balances.old input.now
         (length output.old)) }
 {
     let mut b = book;
@@ -164,13 +151,12 @@ fn serve_sound(
             Next::Record(size) => size,
             Next::Waiting => return sound_run(b, at, out, false, output.len()),
             Next::Wrong => {
-                put_answer(output, out, 5);
+                put_answer(output, out, Refusal::Message.number());
                 return sound_run(b, at, out + 6, true, output.len());
             }
         };
         let w = work(
-            calendar,
-            tables,
+            market,
             b,
             balances,
             &input[at..at + size],
@@ -199,16 +185,15 @@ pub fn serve(
     ensures { left_served result balances.new output.new
         ≡ leaves calendar.now tables.now ended book balances.old input.now output.old }
 {
-    let number = judging::book_number(calendar, tables, book.day, balances);
-    if number != 0 {
-        return Served {
-            number,
+    match judging::judge_book(calendar, tables, book.day, balances) {
+        Ok(market) => serve_sound(&market, book, balances, input, ended, output),
+        Err(refusal) => Served {
+            number: refusal.number(),
             book,
             consumed: 0,
             written: 0,
             over: false,
             full: false,
-        };
+        },
     }
-    serve_sound(calendar, tables, book, balances, input, ended, output)
 }

@@ -10,6 +10,7 @@ ghost use Rattle.program.specs.Steps.{refused_held, begins, left_beginning, has_
 use book::Book;
 use days::Date;
 use program::Held;
+use records::Refusal;
 use stream::Served;
 
 // The bytes of book.dat: calendar, tables and the opening's day.
@@ -38,17 +39,17 @@ fn refuse(output: &mut [u8], number: u16) -> Held
 // refused, the answer stands at the output's start and the run is over.
 pub fn begin(
     file: &[u8],
-    calendar: &mut [u32],
-    tables: &mut [u32],
+    calendar: &mut [u32; 480],
+    tables: &mut [u32; 1824],
     balances: &mut [u64],
     output: &mut [u8],
 ) -> Held
-    requires { (length calendar.old ≡ 480) × (length tables.old ≡ 1824) × (6 ≤ length output.old) }
+    requires { 6 ≤ length output.old }
     ensures { left_beginning result calendar.new tables.new balances.new output.new
         ≡ begins file.now calendar.old tables.old balances.old output.old }
 {
     if file.len() != BOOK_BYTES {
-        return refuse(output, 1);
+        return refuse(output, Refusal::Length.number());
     }
     let day = book_file::load(file, calendar, tables);
     let done = opens::open(calendar, tables, balances, day);
@@ -71,50 +72,21 @@ fn move_down(buf: &mut [u8], from: usize, n: usize)
     requires { from + n ≤ length buf.old }
     ensures { buf.new ≡ put buf.old 0 (take n (drop from buf.old)) }
 {
-    let mut i: usize = 0;
-    while i < n {
-        buf[i] = buf[from + i];
-        i += 1;
-    }
+    buf.copy_within(from..from + n, 0);
 }
 
 // Whether the input has ended: it had before, or bytes were asked for and none came.
 fn has_ended(held: Held, got: usize) -> bool
     ensures { result ≡ has_ended held got }
 {
-    if held.ended {
-        return true;
-    }
-    if held.asks {
-        return got == 0;
-    }
-    false
+    held.ended || held.asks && got == 0
 }
 
 // Whether the run is over: on a book that is not sound, after a 5, or at the end of the input with room left.
 fn is_over(s: Served, ended: bool) -> bool
     ensures { result ≡ is_over s ended }
 {
-    if s.number != 0 {
-        return true;
-    }
-    if s.over {
-        return true;
-    }
-    if ended {
-        return !s.full;
-    }
-    false
-}
-
-// Whether neither holds.
-fn is_neither(a: bool, b: bool) -> bool
-    ensures { result ≡ not a && not b }
-{
-    if a {
-        return false;
-    }
-    !b
+    s.number != 0 || s.over || ended && !s.full
 }
 
 // What is held after a run of serve on have bytes.
@@ -130,7 +102,7 @@ fn held_after(s: Served, ended: bool, have: usize) -> Held
         written: s.written,
         ended,
         over,
-        asks: is_neither(over, s.full),
+        asks: !over && !s.full,
     }
 }
 
@@ -138,14 +110,11 @@ fn held_after(s: Served, ended: bool, have: usize) -> Held
 fn rest(held: Held) -> Held
     ensures { result ≡ resting held }
 {
-    let book = held.book;
     Held {
-        book,
-        left: held.left,
         written: 0,
-        ended: held.ended,
         over: true,
         asks: false,
+        ..held
     }
 }
 

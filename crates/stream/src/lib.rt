@@ -6,7 +6,7 @@
 use book::Book;
 
 // What the input begins with: a whole record with its size, something that may still become one, or something that is none.
-#[derive(Clone, Copy)]
+#[derive(Clone, Copy, Debug, PartialEq, Eq)]
 pub enum Next {
     Record(usize),
     Waiting,
@@ -14,7 +14,7 @@ pub enum Next {
 }
 
 // What working a record answers: the book after it, and how many bytes were written.
-#[derive(Clone, Copy)]
+#[derive(Clone, Copy, Debug, PartialEq, Eq)]
 pub struct Worked {
     pub book: Book,
     pub written: usize,
@@ -24,7 +24,7 @@ pub struct Worked {
 // were worked, how many bytes of the output were written, whether a 5 has ended the stream, and whether the output is full: it has no room
 // for another record behind what was written.
 #[repr(C)]
-#[derive(Clone, Copy)]
+#[derive(Clone, Copy, Debug, PartialEq, Eq)]
 pub struct Served {
     pub number: u16,
     pub book: Book,

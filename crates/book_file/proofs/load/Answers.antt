@@ -8,4 +8,4 @@ pub returns : goal.returns
 unfolding day_in
 returns c =
     let s = c in
-    (calendar_words_lem _ _ _ s.requires.1 c.take_words.ensures, table_words_lem _ _ _ s.requires.2 c.take_words-2.ensures, c.u32_at.ensures)
+    (calendar_words_lem _ _ _ (search rules) c.take_words.ensures, table_words_lem _ _ _ (search rules) c.take_words-2.ensures, c.u32_at.ensures)

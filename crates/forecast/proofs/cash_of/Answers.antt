@@ -1,6 +1,5 @@
 -- `cash_of` meets its contract: whole numbers up to the limit are cast without loss, and the difference of two of them fits a signed word.
 use mathlib.Core.Path.{subst⁻¹}
-use borrow.Author.Rules.{rules}
 use lib.Dec.{T}
 use lib.IntN.{ℤ}
 use lib.Ieee.{binary64, in_float}

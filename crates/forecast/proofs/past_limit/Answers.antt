@@ -3,10 +3,10 @@ use borrow.Author.Tests.{lt-ltb, le-ltb}
 use Rattle.cash.specs.Cash.{past_limit}
 use Rattle.forecast.proofs.past_limit.Goals as goal
 
-pub returns-then-pay-gt-LIMIT : goal.returns-then-pay-gt-LIMIT
+pub returns-then-sums-gt-LIMIT : goal.returns-then-sums-gt-LIMIT
 unfolding past_limit
-returns-then-pay-gt-LIMIT c = rw (lt-ltb _ _ c.if-pay-gt-LIMIT.true)
+returns-then-sums-gt-LIMIT c = rw (lt-ltb _ _ c.if-sums-gt-LIMIT.true)
 
 pub returns : goal.returns
 unfolding past_limit
-returns c = rw (le-ltb _ _ c.if-pay-gt-LIMIT.false)
+returns c = rw (le-ltb _ _ c.if-sums-gt-LIMIT.false)

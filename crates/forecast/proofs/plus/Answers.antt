@@ -1,6 +1,5 @@
 -- `plus` meets its contract: where the rest up to the first number past the limit is at most the amount, the sum is that number.
 use native.Mathlib.Omega.{arith}
-use borrow.Author.Rules.{rules}
 use Rattle.forecast.specs.Adding.{capped}
 use Rattle.forecast.proofs.plus.Goals as goal
 

@@ -1,13 +1,10 @@
--- `sums_of` meets its contract. The loop keeps `Summing`: the sums so far, with the records that are left, are those of the run. What is left of
--- the run falls.
-use Prim.Native.Nat.{◌-◌}
-use borrow.Author.Rules.{rules}
+-- The loop keeps `Summing`: the sums so far, with the rest of the run, are those of the run. The rest falls.
 use lib.ListN.{length}
-use Rattle.forecast.proofs.Summing.{Summing, sums_start, sums_fit, sums_step, sums_end}
+use Rattle.forecast.proofs.Summing.{Summing}
 use Rattle.forecast.proofs.sums_of.Given as goal
 
-abbrev pub invariant-loop-at : goal.invariant-loop-at
-invariant-loop-at l = Summing l.claims l.account l.date l.sums l.at
+abbrev pub invariant-loop-rest : goal.invariant-loop-rest
+invariant-loop-rest l = Summing l.claims l.account l.date l.sums l.rest
 
-abbrev pub decreases-loop-at : goal.decreases-loop-at
-decreases-loop-at l = length l.claims - l.at
+abbrev pub decreases-loop-rest : goal.decreases-loop-rest
+decreases-loop-rest l = length l.rest
