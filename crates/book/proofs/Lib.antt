@@ -5,4 +5,3 @@ pub mod Rows
 pub mod Causes
 pub mod Posted
 pub mod Pieces
-pub mod Copied

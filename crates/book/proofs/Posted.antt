@@ -1,16 +1,14 @@
--- Posting an accepted transfer keeps the balances sound; before it, the laws of the code that gives the numbers 14, 15, 7 and 8, posts and
--- clears.
+-- Posting an accepted transfer keeps the balances sound; before it, the laws of the code that gives the numbers 14, 15, 7 and 8 and posts.
 use mathlib.Core.Path.{◌≡◌, refl, sym, ap, ◌∙◌, subst}
 use mathlib.Core.Logic.{◌↔◌}
-use mathlib.Core.Bool.{Bool, true, false, cond, not, ◌||◌, and-true, and-false}
-use mathlib.Core.List.{List, [], ◌∷◌, ◌++◌, append-nil}
+use mathlib.Core.Bool.{Bool, true, false, cond, not, ◌||◌}
+use mathlib.Core.List.{List, [], ◌∷◌}
 use Prim.Native.Nat.{ℕ, zero, suc, ◌+◌, ◌-◌, ◌%◌, ◌≤◌, ◌<◌}
 use native.Mathlib.Nat.{add-zero, zero-add, add-suc, suc-add}
 use native.Mathlib.Omega.{arith}
 use lib.Dec.{eqb, leb, ltb}
-use lib.ListN.{length, get_or, set, drop, replicate, length-set, drop_of_length-le}
-use borrow.Author.Fill.{fill_none, fill_more}
-use borrow.Author.Tests.{lt-ltb, le-ltb, ltb-true, ltb-false, le-leb, lt-leb, leb-true, eqb-true, eq-eqb, ne_eqb, not-false}
+use lib.ListN.{length, get_or, set, length-set}
+use borrow.Author.Tests.{lt-ltb, le-ltb, ltb-true, ltb-false, le-leb, leb-true, eqb-true, eqb-false, eq-eqb, ne_eqb, not-false}
 use Rattle.lists.specs.Tests.{and_left, and_right, and_both, cond_true}
 use Rattle.lists.specs.First.{NoneApplies, first_of, numbered, applies_at, cleared_by, first_none, hit, skip, none}
 use Rattle.lists.proofs.First.{cleared}
@@ -20,7 +18,7 @@ use Rattle.securities.specs.Lent.{piece_of}
 use Rattle.book.specs.Book.{Position, InRange, word, position, balance_at}
 use Rattle.book.specs.Loans.{tracking_of, step_of, increasing, decreasing, by_sender, by_receiver, Change, unchanged, increase, decrease, change_of, changed, above_balance, past_limit, loan_causes, clears_balance, off_piece, lends_early, posting_causes}
 use Rattle.book.specs.Soundness.{good_balance, good_balances_from, bad_balances}
-use Rattle.book.proofs.Words.{position_word}
+use Rattle.book.proofs.Words.{position_word, word_bound}
 use Rattle.book.proofs.Judged.{sound_balances}
 
 -- ---- the change that a code asks for
@@ -47,47 +45,6 @@ module _ (t : Transfer) where
   unfolding change_of
   change_none e f = rw (e, f)
 
--- ---- numbers 7 and 8
-
-module _ (balances : List ℕ) (t : Transfer) (w : ℕ) where
-  module _ (e : increasing (step_of t.code) ≡ true) (k : w ≡ word (by_sender t)) where
-    not_above : above_balance balances (change_of t) t.par ≡ false
-    unfolding above_balance
-    not_above = rw (change_increase t e)
-
-    pub increase_past : 9000000000 - t.par < get_or balances w 0 → 8 ≡ first_of (loan_causes balances t)
-    unfolding loan_causes past_limit balance_at
-    increase_past h =
-        skip 7 _ not_above
-        (hit 8 _ (rw (change_increase t e, ← k) (lt-ltb 9000000000 (get_or balances w 0 + t.par) (omega arith))))
-
-    pub increase_within : t.par ≤ 9000000000 → get_or balances w 0 ≤ 9000000000 - t.par → ◌≡◌ {A = ℕ} 0 (first_of (loan_causes balances t))
-    unfolding loan_causes past_limit balance_at
-    increase_within s h =
-        skip 7 _ not_above
-        (skip 8 _ (rw (change_increase t e, ← k) (le-ltb 9000000000 (get_or balances w 0 + t.par) (omega arith))) none)
-
-  module _ (e : increasing (step_of t.code) ≡ false) (f : decreasing (step_of t.code) ≡ true) (k : w ≡ word (by_receiver t)) where
-    not_past : past_limit balances (change_of t) t.par ≡ false
-    unfolding past_limit
-    not_past = rw (change_decrease t e f)
-
-    pub decrease_above : get_or balances w 0 < t.par → 7 ≡ first_of (loan_causes balances t)
-    unfolding loan_causes above_balance balance_at
-    decrease_above h = hit 7 _ (rw (change_decrease t e f, ← k) (lt-ltb (get_or balances w 0) t.par h))
-
-    pub decrease_within : t.par ≤ get_or balances w 0 → ◌≡◌ {A = ℕ} 0 (first_of (loan_causes balances t))
-    unfolding loan_causes above_balance balance_at
-    decrease_within h =
-        skip 7 _ (rw (change_decrease t e f, ← k) (le-ltb (get_or balances w 0) t.par h)) (skip 8 _ not_past none)
-
-pub unchanged_accepted : (balances : List ℕ) (t : Transfer) → increasing (step_of t.code) ≡ false → decreasing (step_of t.code) ≡ false
-    → ◌≡◌ {A = ℕ} 0 (first_of (loan_causes balances t))
-unfolding loan_causes above_balance past_limit
-unchanged_accepted balances t e f = rw (change_none t e f) (skip 7 _ refl (skip 8 _ refl none))
-
--- ---- number 14
-
 -- a code that decreases does not increase
 decreases_only : (n : ℕ) → decreasing n ≡ true → increasing n ≡ false
 unfolding increasing decreasing
@@ -97,6 +54,92 @@ decreases_only n e = go (eqb n 2) refl (eqb n 3) refl e
     go true p b q e = rw (eqb-true n 2 p)
     go false p true q e = rw (eqb-true n 3 q)
     go false p false q e = rw (eqb-true n 6 e)
+
+-- the codes by their numbers
+module _ {n : ℕ} where
+  pub adds_first : n ≡ 1 → increasing n ≡ true
+  unfolding increasing
+  adds_first e = rw e
+
+  pub adds : 4 ≤ n → n ≤ 5 → increasing n ≡ true
+  unfolding increasing
+  adds a b = go (eqb n 4) refl
+    where
+      go : (b : Bool) → eqb n 4 ≡ b → (eqb n 1 || eqb n 4 || eqb n 5) ≡ true
+      go true q = rw (eqb-true n 4 q)
+      go false q = let d = eqb-false n 4 q in let e : n ≡ 5 = omega arith in rw e
+
+  pub takes : 2 ≤ n → n ≤ 3 → decreasing n ≡ true
+  unfolding decreasing
+  takes a b = go (eqb n 2) refl
+    where
+      go : (b : Bool) → eqb n 2 ≡ b → (eqb n 2 || eqb n 3 || eqb n 6) ≡ true
+      go true q = rw (eqb-true n 2 q)
+      go false q = let d = eqb-false n 2 q in let e : n ≡ 3 = omega arith in rw e
+
+  pub takes_last : n ≡ 6 → decreasing n ≡ true
+  unfolding decreasing
+  takes_last e = rw e
+
+-- the change that is asked for, by the tracking of the code and its place there
+module _ (t : Transfer) (tracking step : ℕ) (k : tracking ≡ tracking_of t.code) (n : step ≡ step_of t.code) where
+  pub asks_increase : increasing step ≡ true
+      → increase (record { tracking = tracking; security = t.security; lender = t.sender; borrower = t.receiver }) ≡ change_of t
+  unfolding by_sender
+  asks_increase e = rw k (sym (change_increase t (sym (ap increasing n) ∙ e)))
+
+  pub asks_decrease : decreasing step ≡ true
+      → decrease (record { tracking = tracking; security = t.security; lender = t.receiver; borrower = t.sender }) ≡ change_of t
+  unfolding by_receiver
+  asks_decrease e =
+      rw k (sym (change_decrease t (sym (ap increasing n) ∙ decreases_only step e) (sym (ap decreasing n) ∙ e)))
+
+  pub asks_nothing : ((m : ℕ) → 1 ≤ m → m ≤ 6 → step ≡ m → ⊥) → unchanged ≡ change_of t
+  unfolding increasing decreasing
+  asks_nothing o =
+      let away : (m : ℕ) → 1 ≤ m → m ≤ 6 → eqb (step_of t.code) m ≡ false = λ m a b. ne_eqb _ m (λ e. o m a b (n ∙ e)) in
+      sym
+      (change_none t
+      (rw (away 1 (omega arith) (omega arith), away 4 (omega arith) (omega arith), away 5 (omega arith) (omega arith)) refl)
+      (rw (away 2 (omega arith) (omega arith), away 3 (omega arith) (omega arith), away 6 (omega arith) (omega arith)) refl))
+
+-- ---- numbers 7 and 8
+
+module _ (balances : List ℕ) (t : Transfer) where
+  module _ {p : Position} {v : ℕ} (e : change_of t ≡ increase p) (k : v ≡ balance_at balances p) where
+    not_above : above_balance balances (change_of t) t.par ≡ false
+    unfolding above_balance
+    not_above = rw e
+
+    pub increase_past : 9000000000 - t.par < v → 8 ≡ first_of (loan_causes balances t)
+    unfolding loan_causes past_limit
+    increase_past h = skip 7 _ not_above (hit 8 _ (rw (e, ← k) (lt-ltb 9000000000 (v + t.par) (omega arith))))
+
+    pub increase_within : t.par ≤ 9000000000 → v ≤ 9000000000 - t.par → ◌≡◌ {A = ℕ} 0 (first_of (loan_causes balances t))
+    unfolding loan_causes past_limit
+    increase_within s h = skip 7 _ not_above (skip 8 _ (rw (e, ← k) (le-ltb 9000000000 (v + t.par) (omega arith))) none)
+
+  module _ {p : Position} {v : ℕ} (e : change_of t ≡ decrease p) (k : v ≡ balance_at balances p) where
+    pub decrease_above : v < t.par → 7 ≡ first_of (loan_causes balances t)
+    unfolding loan_causes above_balance
+    decrease_above h = hit 7 _ (rw (e, ← k) (lt-ltb v t.par h))
+
+    pub decrease_within : t.par ≤ v → ◌≡◌ {A = ℕ} 0 (first_of (loan_causes balances t))
+    unfolding loan_causes above_balance past_limit
+    decrease_within h = skip 7 _ (rw (e, ← k) (le-ltb v t.par h)) (skip 8 _ (rw e refl) none)
+
+  pub unchanged_accepted : change_of t ≡ unchanged → ◌≡◌ {A = ℕ} 0 (first_of (loan_causes balances t))
+  unfolding loan_causes above_balance past_limit
+  unchanged_accepted e = rw e (skip 7 _ refl (skip 8 _ refl none))
+
+-- ---- number 14
+
+-- only a decrease clears a balance
+pub no_decrease : (balances : List ℕ) (par : ℕ) (c : Change) → ((p : Position) → c ≡ decrease p → ⊥) → false ≡ clears_balance balances c par
+unfolding clears_balance
+no_decrease balances par unchanged n = refl
+no_decrease balances par (increase p) n = refl
+no_decrease balances par (decrease p) n = absurd (n p refl)
 
 module _ (pieces balances : List ℕ) (t : Transfer) where
   pub on_piece : t.par % piece_of pieces t.security ≡ 0 → false ≡ off_piece pieces balances t
@@ -132,19 +175,6 @@ module _ (pieces balances : List ℕ) (t : Transfer) where
 
 -- ---- number 15
 
-module _ (day code : ℕ) where
-  pub early : 1 ≤ code → code ≤ 6 → before_memo day ≡ lends_early day code
-  unfolding lends_early
-  early a b = rw (le-leb 1 code a, le-leb code 6 b) (sym (and-true (before_memo day)))
-
-  pub no_code : code < 1 → false ≡ lends_early day code
-  unfolding lends_early
-  no_code a = rw (lt-leb 1 code a) (sym (and-false (before_memo day)))
-
-  pub repo_code : 6 < code → false ≡ lends_early day code
-  unfolding lends_early
-  repo_code b = rw (lt-leb code 6 b, and-false (leb 1 code)) (sym (and-false (before_memo day)))
-
 -- in other words: the day is before the memo, and the code is 1 to 6
 pub early_words : (day code : ℕ) → (lends_early day code ≡ true) ↔ ((day < memo_day) × (1 ≤ code) × (code ≤ 6))
 unfolding lends_early before_memo
@@ -159,68 +189,59 @@ early_words day code = (
 
 -- ---- an accepted transfer
 
-module _ (balances : List ℕ) (t : Transfer) (n : first_of (loan_causes balances t) ≡ 0) where
-  increase_room : increasing (step_of t.code) ≡ true → balance_at balances (by_sender t) + t.par ≤ 9000000000
+module _ (balances : List ℕ) (t : Transfer) {p : Position} (n : first_of (loan_causes balances t) ≡ 0) where
+  pub increase_fits : change_of t ≡ increase p → balance_at balances p + t.par ≤ 9000000000
   unfolding loan_causes numbered applies_at past_limit
-  increase_room e =
-      ltb-false 9000000000 (balance_at balances (by_sender t) + t.par)
-      (subst (λ (c : Change). past_limit balances c t.par ≡ false) (change_increase t e) (cleared 8 (loan_causes balances t) refl n))
+  increase_fits e =
+      ltb-false 9000000000 (balance_at balances p + t.par)
+      (subst (λ (c : Change). past_limit balances c t.par ≡ false) e (cleared 8 (loan_causes balances t) refl n))
 
-  decrease_room : increasing (step_of t.code) ≡ false → decreasing (step_of t.code) ≡ true → t.par ≤ balance_at balances (by_receiver t)
+  pub decrease_fits : change_of t ≡ decrease p → t.par ≤ balance_at balances p
   unfolding loan_causes numbered applies_at above_balance
-  decrease_room e f =
-      ltb-false (balance_at balances (by_receiver t)) t.par
-      (subst (λ (c : Change). above_balance balances c t.par ≡ false) (change_decrease t e f) (cleared 7 (loan_causes balances t) refl n))
-
-  pub increase_fits : (w : ℕ) → increasing (step_of t.code) ≡ true → w ≡ word (by_sender t) → get_or balances w 0 + t.par ≤ 9000000000
-  unfolding balance_at
-  increase_fits w e k = rw k (increase_room e)
-
-  pub decrease_fits : (w : ℕ) → increasing (step_of t.code) ≡ false → decreasing (step_of t.code) ≡ true → w ≡ word (by_receiver t) → t.par ≤ get_or balances w 0
-  unfolding balance_at
-  decrease_fits w e f k = rw k (decrease_room e f)
+  decrease_fits e =
+      ltb-false (balance_at balances p) t.par
+      (subst (λ (c : Change). above_balance balances c t.par ≡ false) e (cleared 7 (loan_causes balances t) refl n))
 
 -- ---- the balances after it
 
 module _ (balances : List ℕ) (t : Transfer) where
-  pub posted_increase : (w : ℕ) → increasing (step_of t.code) ≡ true → w ≡ word (by_sender t)
-      → set balances w (get_or balances w 0 + t.par) ≡ changed balances (change_of t) t.par
-  unfolding changed balance_at
-  posted_increase w e k = rw (change_increase t e, ← k)
+  module _ {p : Position} {w : ℕ} (k : w ≡ word p) where
+    pub posted_increase : change_of t ≡ increase p → set balances w (get_or balances w 0 + t.par) ≡ changed balances (change_of t) t.par
+    unfolding changed balance_at
+    posted_increase e = rw (e, k)
 
-  pub posted_decrease : (w : ℕ) → increasing (step_of t.code) ≡ false → decreasing (step_of t.code) ≡ true → w ≡ word (by_receiver t)
-      → set balances w (get_or balances w 0 - t.par) ≡ changed balances (change_of t) t.par
-  unfolding changed balance_at
-  posted_decrease w e f k = rw (change_decrease t e f, ← k)
+    pub posted_decrease : change_of t ≡ decrease p → set balances w (get_or balances w 0 - t.par) ≡ changed balances (change_of t) t.par
+    unfolding changed balance_at
+    posted_decrease e = rw (e, k)
 
-  pub posted_none : increasing (step_of t.code) ≡ false → decreasing (step_of t.code) ≡ false → balances ≡ changed balances (change_of t) t.par
+  pub posted_none : change_of t ≡ unchanged → balances ≡ changed balances (change_of t) t.par
   unfolding changed
-  posted_none e f = rw (change_none t e f)
+  posted_none e = rw e
 
--- ---- balances set to zero, in order
+-- ---- the position that it changes
 
-pub record Clearing (balances₀ balances : List ℕ) (i : ℕ) : Type 0 where
-  pub small : i ≤ length balances₀
-  pub sized : length balances ≡ length balances₀
-  pub stored : balances ≡ replicate i 0 ++ drop i balances₀
+-- a change of nothing, or of a position of the book
+abbrev Within : Change → Type 0
+Within unchanged = Unit {0}
+Within (increase p) = InRange p
+Within (decrease p) = InRange p
 
-pub clear_start : (balances : List ℕ) → Clearing balances balances 0
-clear_start balances = record { small = omega arith; sized = refl; stored = fill_none balances 0 }
+module _ (t : Transfer) (s : t.sender < 16) (r : t.receiver < 16) (y : t.security < 16) where
+  within : Within (change_of t)
+  unfolding by_sender by_receiver
+  within = go (increasing (step_of t.code)) refl (decreasing (step_of t.code)) refl
+    where
+      go : (a : Bool) → increasing (step_of t.code) ≡ a → (b : Bool) → decreasing (step_of t.code) ≡ b → Within (change_of t)
+      go true e b f = subst Within (sym (change_increase t e)) (record { tracking = tracking_range t.code; security = y; lender = s; borrower = r })
+      go false e true f = subst Within (sym (change_decrease t e f)) (record { tracking = tracking_range t.code; security = y; lender = r; borrower = s })
+      go false e false f = subst Within (sym (change_none t e f)) tt
 
-pub clear_step : {balances₀ balances : List ℕ} {i : ℕ} → i < length balances → Clearing balances₀ balances i
-    → Clearing balances₀ (set balances i 0) (i + 1)
-clear_step {balances₀} {balances} {i} h k =
-    record {
-      small = omega (arith, k.sized);
-      sized = length-set balances i 0 ∙ k.sized;
-      stored = ap (λ (l : List ℕ). set l i 0) k.stored ∙ fill_more i 0 balances₀ (omega (arith, k.sized));
-    }
+  module _ {p : Position} {c : Change} {w : ℕ} (a : c ≡ change_of t) where
+    pub increase_word : c ≡ increase p → w ≡ word p → w < 8192
+    increase_word e k = let h = word_bound p (subst Within (sym a ∙ e) within) in omega (arith, h, k)
 
-pub clear_end : {balances₀ balances : List ℕ} {i : ℕ} → length balances ≤ i → Clearing balances₀ balances i
-    → balances ≡ replicate (length balances₀) 0
-clear_end {balances₀} {balances} {i} h k =
-    let e : i ≡ length balances₀ = omega (arith, k.sized, k.small) in
-    k.stored ∙ rw (drop_of_length-le balances₀ {i = i} (omega arith)) (append-nil (replicate i 0) ∙ ap (λ (n : ℕ). replicate n 0) e)
+    pub decrease_word : c ≡ decrease p → w ≡ word p → w < 8192
+    decrease_word e k = let h = word_bound p (subst Within (sym a ∙ e) within) in omega (arith, h, k)
 
 -- ---- the balances stay sound
 
@@ -267,7 +288,7 @@ module _ (balances : List ℕ) (t : Transfer) (l : length balances ≡ 8192) (g 
       go : (a : Bool) → increasing (step_of t.code) ≡ a → (b : Bool) → decreasing (step_of t.code) ≡ b → after (change_of t)
       go true e b f =
           subst after (sym (change_increase t e))
-          (written balances (by_sender t) _ g (record { tracking = tracking_range t.code; security = y; lender = s; borrower = r }) d (increase_room balances t n e))
+          (written balances (by_sender t) _ g (record { tracking = tracking_range t.code; security = y; lender = s; borrower = r }) d (increase_fits balances t n (change_increase t e)))
       go false e true f =
           let range : InRange (by_receiver t) = record { tracking = tracking_range t.code; security = y; lender = r; borrower = s } in
           let small = (sound_balances balances l g).small (by_receiver t) range in

@@ -1,6 +1,7 @@
 -- Document 01, section The book: positions and the words of the balances.
 use Rattle.std.specs.Prelude.{Bool, ◌&&◌, List, ℕ, ◌+◌, ◌*◌, ◌/◌, ◌%◌, ◌<◌, eqb, get_or}
 use Rattle.lists.specs.Tabulate.{tabulate}
+pub use Rattle.book.specs.declared.Position.{Position}
 
 -- 8,192 words hold the balances, 4,096 of lending and then 4,096 of repo (document 02, card 3): 16 securities, 16 lenders, 16 borrowers
 -- each.
@@ -14,13 +15,6 @@ tracking_words = 4096
 -- A balance is at most 9,000,000,000.
 abbrev pub largest_balance : ℕ
 largest_balance = 9000000000
-
--- A position: what one account has lent another in one security, on loan (tracking 0) or on repo (tracking 1).
-pub record Position : Type 0 where
-  pub tracking : ℕ
-  pub security : ℕ
-  pub lender : ℕ
-  pub borrower : ℕ
 
 -- A position of the book's two trackings, 16 securities and 16 accounts.
 pub record InRange (p : Position) : Type 0 where

@@ -5,6 +5,8 @@ use Rattle.lists.specs.First.{Cause, cause}
 use Rattle.days.specs.MemoDay.{before_memo}
 use Rattle.records.specs.declared.Transfer.{Transfer}
 use Rattle.securities.specs.Lent.{piece_of}
+pub use Rattle.book.specs.declared.Change.{Change}
+pub use Rattle.book.specs.declared.Change.TheVariants.{Unchanged as unchanged, Increase as increase, Decrease as decrease}
 use Rattle.book.specs.Book.{largest_balance, Position, word, balance_at}
 
 -- Codes 7 to 12 do for repo what 1 to 6 do for lending: the tracking of a code, and its place in the tracking.
@@ -29,11 +31,6 @@ unfoldable pub by_receiver : Transfer → Position
 by_receiver t = record { tracking = tracking_of t.code; security = t.security; lender = t.receiver; borrower = t.sender }
 
 -- Loans each way stand beside each other: a transfer changes one position, or none.
-pub data Change : Type 0 where
-  unchanged : Change
-  increase : Position → Change
-  decrease : Position → Change
-
 unfoldable pub change_of : Transfer → Change
 change_of t = cond (increasing (step_of t.code)) (increase (by_sender t)) (cond (decreasing (step_of t.code)) (decrease (by_receiver t)) unchanged)
 

@@ -6,8 +6,47 @@
 ghost use Rattle.std.specs.Prelude.{◌≡◌, ◌++◌, ◌≤◌, length, drop, replicate};
 ghost use Rattle.records.specs.Refusals.{refusal_number};
 ghost use Rattle.book.specs.Answered.{answered};
+ghost use Rattle.book.specs.Book.{word, balance_at};
 
 use records::Refusal;
+
+// A position: what one account has lent another in one security, on loan (tracking 0) or on repo (tracking 1).
+#[derive(Clone, Copy, Debug, PartialEq, Eq)]
+pub struct Position {
+    pub tracking: u8,
+    pub security: u8,
+    pub lender: u8,
+    pub borrower: u8,
+}
+
+impl Position {
+    // The word of the balances that holds it.
+    #[tactic(auto, unfolding(crate::specs::Book::word))]
+    pub fn word(self) -> usize
+        ensures { result ≡ word self }
+    {
+        4096 * (self.tracking as usize)
+            + 256 * (self.security as usize)
+            + 16 * (self.lender as usize)
+            + self.borrower as usize
+    }
+
+    // Its par, nothing where balances do not reach it.
+    #[tactic(auto, unfolding(crate::specs::Book::balance_at))]
+    pub fn par(self, balances: &[u64]) -> u64
+        ensures { result ≡ balance_at balances.now self }
+    {
+        balances.get(self.word()).copied().unwrap_or(0)
+    }
+}
+
+// What a transfer does to a position: loans each way stand beside each other, so it changes one, or none.
+#[derive(Clone, Copy, Debug, PartialEq, Eq)]
+pub enum Change {
+    Unchanged,
+    Increase(Position),
+    Decrease(Position),
+}
 
 // A book's day and the number of its accepted transfers.
 #[repr(C)]

@@ -81,8 +81,8 @@ fn good_balance(w: usize, par: u64) -> bool
 fn judge_balances(balances: &[u64]) -> bool
     ensures { result ≡ bad_balances balances.now }
 {
-    for w in 0..balances.len() {
-        if !good_balance(w, balances[w]) {
+    for (w, par) in balances.iter().enumerate() {
+        if !good_balance(w, *par) {
             return true;
         }
     }

@@ -1,26 +1,56 @@
 -- `post` changes the word of the definition; the number 0 says that the sum and the difference fit.
 use mathlib.Core.Path.{sym, ◌∙◌}
-use Rattle.book.specs.Loans.{by_sender, by_receiver}
-use Rattle.book.proofs.Posted.{increase_fits, decrease_fits, posted_increase, posted_decrease, posted_none}
-use borrow.Author.Rules.{rules}
 use native.Mathlib.Omega.{arith}
+use Rattle.book.specs.Book.{balance_at}
+use Rattle.book.proofs.Posted.{increase_fits, decrease_fits, increase_word, decrease_word, posted_increase, posted_decrease, posted_none}
 use Rattle.loans.proofs.post.Goals as goal
 
-pub overflow_add-balances : goal.overflow_add-balances
-unfolding by_sender
-overflow_add-balances c = omega (arith, increase_fits _ _ c.requires.4 _ (sym c.increases.ensures ∙ c.if-increases.true) c.word_of-w.ensures.0)
+pub offset_bounds-balances-word : goal.offset_bounds-balances-word
+offset_bounds-balances-word c =
+    let h = increase_word _ c.requires.1 c.requires.2 c.requires.3 c.change_of.ensures c.in-Increase.is c.word.ensures in
+    record { fits = omega (arith, h) }
 
-pub returns-then-increases : goal.returns-then-increases
-unfolding by_sender
-returns-then-increases c = posted_increase _ _ _ (sym c.increases.ensures ∙ c.if-increases.true) c.word_of-w.ensures.0
+pub bounds-balances-word : goal.bounds-balances-word
+bounds-balances-word c =
+    let h = increase_word _ c.requires.1 c.requires.2 c.requires.3 c.change_of.ensures c.in-Increase.is c.word.ensures in
+    omega (arith, h, c.requires.0)
+
+pub bounds-balances-word-in-Increase : goal.bounds-balances-word-in-Increase
+bounds-balances-word-in-Increase c =
+    let h = increase_word _ c.requires.1 c.requires.2 c.requires.3 c.change_of.ensures c.in-Increase.is c.word.ensures in
+    omega (arith, h, c.requires.0)
+
+pub overflow_add-balances : goal.overflow_add-balances
+unfolding balance_at
+overflow_add-balances c =
+    let h = increase_fits _ _ c.requires.4 (sym c.change_of.ensures ∙ c.in-Increase.is) in
+    record { fits = rw c.word.ensures (omega (arith, h)) }
+
+pub returns-in-Increase : goal.returns-in-Increase
+returns-in-Increase c = posted_increase _ _ c.word.ensures (sym c.change_of.ensures ∙ c.in-Increase.is)
+
+pub offset_bounds-balances-word-in-Decrease : goal.offset_bounds-balances-word-in-Decrease
+offset_bounds-balances-word-in-Decrease c =
+    let h = decrease_word _ c.requires.1 c.requires.2 c.requires.3 c.change_of.ensures c.in-Decrease.is c.word-in-Decrease.ensures in
+    record { fits = omega (arith, h) }
+
+pub bounds-balances-word-in-Decrease : goal.bounds-balances-word-in-Decrease
+bounds-balances-word-in-Decrease c =
+    let h = decrease_word _ c.requires.1 c.requires.2 c.requires.3 c.change_of.ensures c.in-Decrease.is c.word-in-Decrease.ensures in
+    omega (arith, h, c.requires.0)
+
+pub bounds-balances-word-in-Decrease-2 : goal.bounds-balances-word-in-Decrease-2
+bounds-balances-word-in-Decrease-2 c =
+    let h = decrease_word _ c.requires.1 c.requires.2 c.requires.3 c.change_of.ensures c.in-Decrease.is c.word-in-Decrease.ensures in
+    omega (arith, h, c.requires.0)
 
 pub overflow_sub-balances : goal.overflow_sub-balances
-unfolding by_receiver
-overflow_sub-balances c = decrease_fits _ _ c.requires.4 _ (sym c.increases.ensures ∙ c.if-increases.false) (sym c.decreases.ensures ∙ c.if-decreases.true) c.word_of-w-then-decreases.ensures.0
+unfolding balance_at
+overflow_sub-balances c =
+    rw c.word-in-Decrease.ensures (decrease_fits _ _ c.requires.4 (sym c.change_of.ensures ∙ c.in-Decrease.is))
 
-pub returns-then-decreases : goal.returns-then-decreases
-unfolding by_receiver
-returns-then-decreases c = posted_decrease _ _ _ (sym c.increases.ensures ∙ c.if-increases.false) (sym c.decreases.ensures ∙ c.if-decreases.true) c.word_of-w-then-decreases.ensures.0
+pub returns-in-Decrease : goal.returns-in-Decrease
+returns-in-Decrease c = posted_decrease _ _ c.word-in-Decrease.ensures (sym c.change_of.ensures ∙ c.in-Decrease.is)
 
-pub returns : goal.returns
-returns c = posted_none _ _ (sym c.increases.ensures ∙ c.if-increases.false) (sym c.decreases.ensures ∙ c.if-decreases.false)
+pub returns-in-Unchanged : goal.returns-in-Unchanged
+returns-in-Unchanged c = posted_none _ _ (sym c.change_of.ensures ∙ c.in-Unchanged.is)
