@@ -91,30 +91,42 @@ pub enum WordsCall {
     Mark(MarkCall, u32),
 }
 
-// A call: its arguments, or where they stand.
+// The arguments of a call that is lent tables.
+#[derive(Clone, Copy)]
+pub struct ClaimsEntry<'a> {
+    pub call: Call,
+    pub calendar: Numbers,
+    pub tables: Numbers,
+    pub balances: Balances,
+    pub book: Book,
+    pub message: &'a [u8],
+    pub buffer: Bytes,
+}
+
+// The arguments of a call on words.
+#[derive(Clone, Copy)]
+pub struct WordsEntry {
+    pub call: WordsCall,
+    pub calendar: Numbers,
+    pub balances: Balances,
+    pub book: Book,
+    pub words: Balances,
+}
+
+// The arguments of a forecast: an account, a release date and a run of claim records.
+#[derive(Clone, Copy)]
+pub struct ForecastEntry<'a> {
+    pub account: u32,
+    pub date: u32,
+    pub run: &'a [u8],
+}
+
+// A call with its arguments, or where these stand.
 #[derive(Clone, Copy)]
 pub enum Entry<'a> {
-    Claims {
-        call: Call,
-        calendar: Numbers,
-        tables: Numbers,
-        balances: Balances,
-        book: Book,
-        message: &'a [u8],
-        buffer: Bytes,
-    },
-    Words {
-        call: WordsCall,
-        calendar: Numbers,
-        balances: Balances,
-        book: Book,
-        words: Balances,
-    },
-    Forecast {
-        account: u32,
-        date: u32,
-        run: &'a [u8],
-    },
+    Claims(ClaimsEntry<'a>),
+    Words(WordsEntry),
+    Forecast(ForecastEntry<'a>),
 }
 
 // The book at a place.
@@ -141,14 +153,14 @@ fn words_entry_at(number: u8, s: &[u8], at: usize) -> (Entry<'_>, usize) {
         ),
         _ => (WordsCall::CarryOver, next),
     };
-    let entry = Entry::Words {
+    let entry = WordsEntry {
         call,
         calendar,
         balances,
         book: book_at(s, book),
         words,
     };
-    (entry, next)
+    (Entry::Words(entry), next)
 }
 
 // The call with a number that is lent tables whose calendar stands at a place, and the place behind it.
@@ -160,7 +172,7 @@ fn claims_entry_at(number: u8, s: &[u8], at: usize) -> (Entry<'_>, usize) {
     let message = Bytes::at(s, book.saturating_add(8));
     let buffer = Bytes::at(s, message.next());
     let (call, next) = Call::at(number, s, buffer.next());
-    let entry = Entry::Claims {
+    let entry = ClaimsEntry {
         call,
         calendar,
         tables,
@@ -169,18 +181,18 @@ fn claims_entry_at(number: u8, s: &[u8], at: usize) -> (Entry<'_>, usize) {
         message: message.of(s),
         buffer,
     };
-    (entry, next)
+    (Entry::Claims(entry), next)
 }
 
 // The forecast whose account stands at a place, and the place behind it.
 fn forecast_at(s: &[u8], at: usize) -> (Entry<'_>, usize) {
     let run = Bytes::at(s, at.saturating_add(8));
-    let entry = Entry::Forecast {
+    let entry = ForecastEntry {
         account: word_at(s, at),
         date: word_at(s, at.saturating_add(4)),
         run: run.of(s),
     };
-    (entry, run.next())
+    (Entry::Forecast(entry), run.next())
 }
 
 // The call at a place, and the place behind it.

@@ -13,7 +13,7 @@ use std::rt::Files;
 pub mod entries;
 pub mod steps;
 
-// The length that stands for limits that are not lent.
+// The length that stands for a list that is not lent.
 const NOT_LENT: u32 = 4294967295;
 
 // The modulus of the checksums, a prime.
@@ -53,6 +53,25 @@ impl Numbers {
 pub struct Lists {
     pub limits: Option<Numbers>,
     pub pieces: Numbers,
+}
+
+// The list at a place, but for one that is not lent, and the place behind it.
+fn list_at(s: &[u8], at: usize) -> (Option<Numbers>, usize) {
+    let numbers = Numbers::at(s, at);
+    if numbers.count == NOT_LENT {
+        return (None, numbers.at);
+    }
+    (Some(numbers), numbers.next())
+}
+
+impl Lists {
+    // The limits and the pieces at a place, and the place behind them. Pieces that are not lent are none.
+    fn at(s: &[u8], at: usize) -> (Lists, usize) {
+        let (limits, pieces) = list_at(s, at);
+        let (pieces, next) = list_at(s, pieces);
+        let pieces = pieces.unwrap_or(Numbers { at: next, count: 0 });
+        (Lists { limits, pieces }, next)
+    }
 }
 
 // A call that is lent tables.
@@ -164,16 +183,8 @@ impl Call {
             0 => (Call::Open, at),
             1 => (Call::Transfer, at),
             3 => {
-                let limits = Numbers::at(s, at);
-                let is_lent = limits.count != NOT_LENT;
-                let pieces = Numbers::at(s, if is_lent { limits.next() } else { limits.at });
-                (
-                    Call::LentTransfer(Lists {
-                        limits: if is_lent { Some(limits) } else { None },
-                        pieces,
-                    }),
-                    pieces.next(),
-                )
+                let (lists, next) = Lists::at(s, at);
+                (Call::LentTransfer(lists), next)
             }
             _ => (Call::Close, at),
         }

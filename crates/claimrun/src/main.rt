@@ -50,7 +50,7 @@ fn read_some(rt: &impl Clock, from: &mut impl Read, buf: &mut [u8]) -> io::Resul
     Err(io::Error::from(ErrorKind::WouldBlock))
 }
 
-// One write, likewise.
+// One write, likewise. It is a loop of its own, since a caller would not know how many bytes a closure has read into a buffer.
 fn write_some(rt: &(impl Print + Clock), buf: &[u8]) -> io::Result<usize>
     ensures { WritesAtMost result buf.now }
 {

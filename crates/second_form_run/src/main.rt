@@ -49,11 +49,17 @@ fn fill_tables(tables: &mut [u32; 1824]) {
     tables[12] = 5000000;
 }
 
-// A form of the calls.
-trait Form {
+// A form of the calls: by value, or the second form, on the caller's own book.
+#[derive(Clone, Copy)]
+enum Form {
+    ByValue,
+    OwnBook,
+}
+
+impl Form {
     // A transfer.
     fn transfer(
-        &self,
+        self,
         calendar: &[u32],
         tables: &[u32],
         pieces: &[u32],
@@ -61,41 +67,20 @@ trait Form {
         balances: &mut [u64],
         message: &[u8],
         claims: &mut [u8],
-    ) -> Done;
+    ) -> Done {
+        match self {
+            Form::ByValue => tracker::calls::claim_tracker_transfer(
+                calendar, tables, pieces, book, balances, message, claims,
+            ),
+            Form::OwnBook => second_form::transfer_lent(
+                calendar, tables, pieces, book, balances, message, claims,
+            ),
+        }
+    }
 
     // A close.
     fn close(
-        &self,
-        calendar: &[u32],
-        tables: &[u32],
-        book: Book,
-        balances: &mut [u64],
-        message: &[u8],
-        claims: &mut [u8],
-    ) -> Done;
-}
-
-// The calls by value.
-struct ByValue;
-
-impl Form for ByValue {
-    fn transfer(
-        &self,
-        calendar: &[u32],
-        tables: &[u32],
-        pieces: &[u32],
-        book: Book,
-        balances: &mut [u64],
-        message: &[u8],
-        claims: &mut [u8],
-    ) -> Done {
-        tracker::calls::claim_tracker_transfer(
-            calendar, tables, pieces, book, balances, message, claims,
-        )
-    }
-
-    fn close(
-        &self,
+        self,
         calendar: &[u32],
         tables: &[u32],
         book: Book,
@@ -103,43 +88,21 @@ impl Form for ByValue {
         message: &[u8],
         claims: &mut [u8],
     ) -> Done {
-        tracker::calls::claim_tracker_close(calendar, tables, book, balances, message, claims)
+        match self {
+            Form::ByValue => tracker::calls::claim_tracker_close(
+                calendar, tables, book, balances, message, claims,
+            ),
+            Form::OwnBook => {
+                second_form::close_lent(calendar, tables, book, balances, message, claims)
+            }
+        }
     }
 }
 
-// The calls in the second form, on the caller's own book.
-struct OwnBook;
-
-impl Form for OwnBook {
-    fn transfer(
-        &self,
-        calendar: &[u32],
-        tables: &[u32],
-        pieces: &[u32],
-        book: Book,
-        balances: &mut [u64],
-        message: &[u8],
-        claims: &mut [u8],
-    ) -> Done {
-        second_form::transfer_lent(calendar, tables, pieces, book, balances, message, claims)
-    }
-
-    fn close(
-        &self,
-        calendar: &[u32],
-        tables: &[u32],
-        book: Book,
-        balances: &mut [u64],
-        message: &[u8],
-        claims: &mut [u8],
-    ) -> Done {
-        second_form::close_lent(calendar, tables, book, balances, message, claims)
-    }
-}
-
-// What the calls of a run are lent and leave, but for messages and claims.
+// A run of the cases in one form: what its calls are lent and leave, but for messages and claims.
 #[derive(Drop)]
-struct World {
+struct Run {
+    form: Form,
     calendar: [u32; 480],
     tables: [u32; 1824],
     book: Book,
@@ -166,18 +129,19 @@ fn print_cents(rt: &impl Print, claims: &[u8]) {
     };
 }
 
-impl World {
+impl Run {
     // The calendar and the tables of the cases, with no book and no balances yet.
-    fn new() -> World {
-        let mut world = World {
+    fn new(form: Form) -> Run {
+        let mut run = Run {
+            form,
             calendar: [0; 480],
             tables: [0; 1824],
             book: Book { day: 0, count: 0 },
             balances: [0; 8192],
         };
-        fill_calendar(&mut world.calendar);
-        fill_tables(&mut world.tables);
-        world
+        fill_calendar(&mut run.calendar);
+        fill_tables(&mut run.tables);
+        run
     }
 
     // Writes a call's line, and takes the book after it.
@@ -206,22 +170,15 @@ impl World {
         self.tell(rt, "opening", done);
     }
 
-    // Makes a transfer in one form, with a piece of security 0.
-    fn transfer(
-        &mut self,
-        rt: &impl Print,
-        form: &impl Form,
-        name: &str,
-        piece: u32,
-        fields: Transfer,
-    ) {
+    // Makes a transfer with a piece of security 0.
+    fn transfer(&mut self, rt: &impl Print, name: &str, piece: u32, fields: Transfer) {
         let line = [32u8; 64];
         let mut message = [0u8; 141];
         writing::write_transfer(&mut message, fields, &line, &line);
         let mut claims = [0u8; 35];
         let mut pieces = [1u32; 16];
         pieces[0] = piece;
-        let done = form.transfer(
+        let done = self.form.transfer(
             &self.calendar,
             &self.tables,
             &pieces,
@@ -233,11 +190,11 @@ impl World {
         self.tell(rt, name, done);
     }
 
-    // Makes a close in one form.
-    fn close(&mut self, rt: &impl Print, form: &impl Form, name: &str, claims: &mut [u8]) {
+    // Makes a close.
+    fn close(&mut self, rt: &impl Print, name: &str, claims: &mut [u8]) {
         let mut message = [0u8; 4];
         writing::write_close(&mut message);
-        let done = form.close(
+        let done = self.form.close(
             &self.calendar,
             &self.tables,
             self.book,
@@ -248,24 +205,24 @@ impl World {
         self.tell(rt, name, done);
     }
 
-    // Runs the cases in one form, and answers the claim buffer of the close.
-    fn run(&mut self, rt: &impl Print, form: &impl Form) -> [u8; 70] {
+    // Runs the cases, and answers the claim buffer of the close.
+    fn run(&mut self, rt: &impl Print) -> [u8; 70] {
         let thousands = "start 1,500 in pieces of 1,000";
         let nothings = "start 1,500 in pieces of 0";
         let sevens = "return 15,000 in pieces of 7";
         self.open(rt);
-        self.transfer(rt, form, "start 50,000", 1, loan(1, 1, 2, 50000));
-        self.transfer(rt, form, "return 20,000", 1, loan(3, 2, 1, 20000));
-        self.transfer(rt, form, "ADSR 15,000", 1, loan(6, 2, 1, 15000));
-        self.transfer(rt, form, "ADSR 15,001", 1, loan(6, 2, 1, 15001));
-        self.transfer(rt, form, thousands, 1000, loan(1, 1, 2, 1500));
-        self.transfer(rt, form, nothings, 0, loan(1, 1, 2, 1500));
+        self.transfer(rt, "start 50,000", 1, loan(1, 1, 2, 50000));
+        self.transfer(rt, "return 20,000", 1, loan(3, 2, 1, 20000));
+        self.transfer(rt, "ADSR 15,000", 1, loan(6, 2, 1, 15000));
+        self.transfer(rt, "ADSR 15,001", 1, loan(6, 2, 1, 15001));
+        self.transfer(rt, thousands, 1000, loan(1, 1, 2, 1500));
+        self.transfer(rt, nothings, 0, loan(1, 1, 2, 1500));
         let mut short = [0u8; 34];
-        self.close(rt, form, "close without room", &mut short);
+        self.close(rt, "close without room", &mut short);
         let mut claims = [0u8; 70];
-        self.close(rt, form, "close", &mut claims);
+        self.close(rt, "close", &mut claims);
         print_cents(rt, &claims);
-        self.transfer(rt, form, sevens, 7, loan(3, 2, 1, 15000));
+        self.transfer(rt, sevens, 7, loan(3, 2, 1, 15000));
         claims
     }
 }
@@ -283,12 +240,12 @@ fn print_same(rt: &impl Print, same_balances: bool, same_claims: bool) {
 }
 
 fn main(rt: HostRuntime) {
-    let mut by_value = World::new();
+    let mut by_value = Run::new(Form::ByValue);
     let _ = println!(&rt; "by value");
-    let claims = by_value.run(&rt, &ByValue);
-    let mut own_book = World::new();
+    let claims = by_value.run(&rt);
+    let mut own_book = Run::new(Form::OwnBook);
     let _ = println!(&rt; "the caller's own book");
-    let own_claims = own_book.run(&rt, &OwnBook);
+    let own_claims = own_book.run(&rt);
     print_same(
         &rt,
         by_value.balances == own_book.balances,

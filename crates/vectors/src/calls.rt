@@ -5,9 +5,11 @@ ghost use Rattle.std.specs.Prelude.{◌<◌, ◌^◌};
 
 use crate::forecasts;
 use crate::totals::Totals;
-use book::{Book, Done};
-use call_files::entries::{Balances, Bytes, Entry, Expected, WordsCall, entry_at};
-use call_files::{Numbers, half_at, read_file};
+use book::Done;
+use call_files::entries::{
+    Balances, Bytes, ClaimsEntry, Entry, Expected, ForecastEntry, WordsCall, WordsEntry, entry_at,
+};
+use call_files::{half_at, read_file};
 use std::fmt;
 use std::rt::Files;
 
@@ -85,15 +87,63 @@ fn compare(
     }
 }
 
-// Makes a forecast; answers what differs from what it should give, at a place of a file, and the place behind that.
-fn try_forecast(
-    run: &[u8],
-    account: u32,
-    date: u32,
+// Makes a call that is lent tables. Answers what differs from what it should give, which stands at a place of a file, and the place behind
+// that; so do the next three.
+fn try_claims(
+    s: &[u8],
+    entry: ClaimsEntry,
     t: &[u8],
     place: usize,
+    buffers: &mut Buffers,
 ) -> (Differences, usize) {
-    let (number, bits) = forecasts::answer(run, account, date);
+    let calendar = entry.calendar.read(s, &mut buffers.calendar);
+    let tables = entry.tables.read(s, &mut buffers.tables);
+    let balances = entry.balances.read(s, &mut buffers.balances);
+    let claims = entry.buffer.read(s, &mut buffers.claims);
+    let ClaimsEntry {
+        call,
+        book,
+        message,
+        ..
+    } = entry;
+    let done = call.make(s, calendar, tables, book, balances, message, claims);
+    let expected = Expected::at(t, place);
+    let bytes = Bytes::at(t, expected.next(t));
+    let differences = Differences {
+        buffer: !same_bytes(claims, t, bytes),
+        ..compare(done, balances, t, expected, &mut buffers.left)
+    };
+    (differences, bytes.next())
+}
+
+// Makes a call on words.
+fn try_words(
+    s: &[u8],
+    entry: WordsEntry,
+    t: &[u8],
+    place: usize,
+    buffers: &mut Buffers,
+) -> (Differences, usize) {
+    let book = entry.book;
+    let calendar = entry.calendar.read(s, &mut buffers.calendar);
+    let balances = entry.balances.read(s, &mut buffers.balances);
+    let words = entry.words.read(s, &mut buffers.words);
+    let done = match entry.call {
+        WordsCall::CarryOver => carry_over::carry_over(calendar, book, balances, words),
+        WordsCall::Mark(call, mark) => call.make(calendar, book, balances, words, mark),
+    };
+    let expected = Expected::at(t, place);
+    let stored = Balances(expected.next(t));
+    let differences = Differences {
+        words: !same_words(words, t, stored, &mut buffers.left),
+        ..compare(done, balances, t, expected, &mut buffers.left)
+    };
+    (differences, stored.next(t))
+}
+
+// Makes a forecast.
+fn try_forecast(entry: ForecastEntry, t: &[u8], place: usize) -> (Differences, usize) {
+    let (number, bits) = forecasts::answer(entry.run, entry.account, entry.date);
     let differences = Differences {
         number: number != half_at(t, place),
         figures: bits != forecasts::bits_at(t, place.saturating_add(2)),
@@ -102,7 +152,7 @@ fn try_forecast(
     (differences, place.saturating_add(26))
 }
 
-// Makes a call with the arguments of a file; answers what differs from what it should give, at a place of another, and the place behind that.
+// Makes a call with the arguments of a file.
 fn try_entry(
     s: &[u8],
     entry: Entry,
@@ -110,51 +160,10 @@ fn try_entry(
     place: usize,
     buffers: &mut Buffers,
 ) -> (Differences, usize) {
-    let expected = Expected::at(t, place);
     match entry {
-        Entry::Claims {
-            call,
-            calendar,
-            tables,
-            balances,
-            book,
-            message,
-            buffer,
-        } => {
-            let calendar = calendar.read(s, &mut buffers.calendar);
-            let tables = tables.read(s, &mut buffers.tables);
-            let balances = balances.read(s, &mut buffers.balances);
-            let claims = buffer.read(s, &mut buffers.claims);
-            let done = call.make(s, calendar, tables, book, balances, message, claims);
-            let bytes = Bytes::at(t, expected.next(t));
-            let differences = Differences {
-                buffer: !same_bytes(claims, t, bytes),
-                ..compare(done, balances, t, expected, &mut buffers.left)
-            };
-            (differences, bytes.next())
-        }
-        Entry::Words {
-            call,
-            calendar,
-            balances,
-            book,
-            words,
-        } => {
-            let calendar = calendar.read(s, &mut buffers.calendar);
-            let balances = balances.read(s, &mut buffers.balances);
-            let words = words.read(s, &mut buffers.words);
-            let done = match call {
-                WordsCall::CarryOver => carry_over::carry_over(calendar, book, balances, words),
-                WordsCall::Mark(call, mark) => call.make(calendar, book, balances, words, mark),
-            };
-            let stored = Balances(expected.next(t));
-            let differences = Differences {
-                words: !same_words(words, t, stored, &mut buffers.left),
-                ..compare(done, balances, t, expected, &mut buffers.left)
-            };
-            (differences, stored.next(t))
-        }
-        Entry::Forecast { account, date, run } => try_forecast(run, account, date, t, place),
+        Entry::Claims(entry) => try_claims(s, entry, t, place, buffers),
+        Entry::Words(entry) => try_words(s, entry, t, place, buffers),
+        Entry::Forecast(entry) => try_forecast(entry, t, place),
     }
 }
 

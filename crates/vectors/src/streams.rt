@@ -47,81 +47,84 @@ fn is_answer(number: u16, expected: &[u8]) -> bool {
     out.as_slice() == expected
 }
 
-// One run of serve, where what it writes is what should be written.
-fn turn(
-    calendar: &[u32],
-    tables: &[u32],
-    run: Run,
-    balances: &mut [u64],
-    input: &[u8],
-    ended: bool,
-    output: &mut [u8],
-    expected: &[u8],
-) -> Option<Run> {
-    let rest = part(input, run.at, input.len());
-    let s = serving::serve(calendar, tables, run.book, balances, rest, ended, output);
-    if part(output, 0, s.written) != part(expected, run.place, s.written) {
-        return None;
-    }
-    Some(Run {
-        book: s.book,
-        at: run.at.saturating_add(s.consumed),
-        place: run.place.saturating_add(s.written),
-        over: s.over,
-    })
+// What each run of serve is lent, and what all runs together should write.
+#[derive(Clone, Copy)]
+struct Lent<'a> {
+    calendar: &'a [u32],
+    tables: &'a [u32],
+    expected: &'a [u8],
 }
 
-// Runs of serve until one works nothing or the stream is over, where what they write is what should be written. A proved loop has to end, so
-// it counts them.
-fn turns(
-    calendar: &[u32],
-    tables: &[u32],
-    start: Run,
-    balances: &mut [u64],
-    input: &[u8],
-    ended: bool,
-    output: &mut [u8],
-    expected: &[u8],
-) -> Option<Run> {
-    let mut run = start;
-    for _ in 0..u32::MAX {
-        let next = turn(
-            calendar, tables, run, balances, input, ended, output, expected,
-        )?;
-        if next.over || next.at == run.at {
-            return Some(next);
+impl Lent<'_> {
+    // One run of serve, where what it writes is what should be written.
+    fn turn(
+        self,
+        run: Run,
+        balances: &mut [u64],
+        input: &[u8],
+        ended: bool,
+        output: &mut [u8],
+    ) -> Option<Run> {
+        let Lent {
+            calendar,
+            tables,
+            expected,
+        } = self;
+        let rest = part(input, run.at, input.len());
+        let s = serving::serve(calendar, tables, run.book, balances, rest, ended, output);
+        if part(output, 0, s.written) != part(expected, run.place, s.written) {
+            return None;
         }
-        run = next;
+        Some(Run {
+            book: s.book,
+            at: run.at.saturating_add(s.consumed),
+            place: run.place.saturating_add(s.written),
+            over: s.over,
+        })
     }
-    Some(run)
-}
 
-// Serves the first half of the input, and then the rest, where all that is written is what should be written.
-fn serve_halves(
-    calendar: &[u32],
-    tables: &[u32],
-    book: Book,
-    balances: &mut [u64],
-    input: &[u8],
-    expected: &[u8],
-    output: &mut [u8],
-) -> Option<Run> {
-    let start = Run {
-        book,
-        at: 0,
-        place: 0,
-        over: false,
-    };
-    let first = part(input, 0, input.len() / 2);
-    let half = turns(
-        calendar, tables, start, balances, first, false, output, expected,
-    )?;
-    if half.over {
-        return Some(half);
+    // Runs of serve until one works nothing or the stream is over, where what they write is what should be written. A proved loop has to end,
+    // so it counts them.
+    fn turns(
+        self,
+        start: Run,
+        balances: &mut [u64],
+        input: &[u8],
+        ended: bool,
+        output: &mut [u8],
+    ) -> Option<Run> {
+        let mut run = start;
+        for _ in 0..u32::MAX {
+            let next = self.turn(run, balances, input, ended, output)?;
+            if next.over || next.at == run.at {
+                return Some(next);
+            }
+            run = next;
+        }
+        Some(run)
     }
-    turns(
-        calendar, tables, half, balances, input, true, output, expected,
-    )
+
+    // Serves the first half of the input, and then the rest, where all that is written is what should be written.
+    fn serve_halves(
+        self,
+        book: Book,
+        balances: &mut [u64],
+        input: &[u8],
+        output: &mut [u8],
+    ) -> Option<Run> {
+        let start = Run {
+            book,
+            at: 0,
+            place: 0,
+            over: false,
+        };
+        let first = part(input, 0, input.len() / 2);
+        let half = self.turns(start, balances, first, false, output)?;
+        if half.over {
+            return Some(half);
+        }
+        self.turns(half, balances, input, true, output)
+    }
 }
 
 // Opens the book and serves the input; a book that is refused gets its number. Answers whether what is written is what should be, and all of
@@ -142,10 +145,13 @@ fn try_stream(stream: Stream, balances: &mut [u64], output: &mut [u8]) -> bool {
     if done.number != 0 {
         return is_answer(done.number, expected);
     }
-    serve_halves(
-        &calendar, &tables, done.book, balances, input, expected, output,
-    )
-    .is_some_and(|run| run.place == expected.len())
+    let lent = Lent {
+        calendar: &calendar,
+        tables: &tables,
+        expected,
+    };
+    lent.serve_halves(done.book, balances, input, output)
+        .is_some_and(|run| run.place == expected.len())
 }
 
 // Tries the streams of a file, one after another.
