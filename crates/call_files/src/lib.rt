@@ -2,7 +2,7 @@
 // Bytes behind the end of a file count as 0, so every place may be asked for.
 #![tactic(auto)]
 
-ghost use Rattle.std.specs.Prelude.{◌<◌};
+ghost use Rattle.std.specs.Prelude.{◌<◌, ◌≤◌, length};
 ghost use Rattle.std.specs.Counts.{IsPrefixLen};
 
 use book::{Book, Done};
@@ -91,7 +91,9 @@ pub enum MarkCall {
 }
 
 // The n bytes from a place on, fewer where the end comes first.
-pub fn part(s: &[u8], at: usize, n: usize) -> &[u8] {
+pub fn part(s: &[u8], at: usize, n: usize) -> &[u8]
+    ensures { length result.now ≤ n }
+{
     let rest = s.get(at..).unwrap_or(b"");
     rest.get(..n).unwrap_or(rest)
 }
@@ -125,30 +127,26 @@ pub fn double_at(s: &[u8], at: usize) -> u64 {
 
 // Fills words with the numbers of four bytes each from a place on.
 pub fn words_at(s: &[u8], at: usize, words: &mut [u32]) {
-    let mut from = at;
-    for word in words {
-        *word = word_at(s, from);
-        from = from.saturating_add(4);
+    for (i, word) in words.iter_mut().enumerate() {
+        *word = word_at(s, at.saturating_add(i.saturating_mul(4)));
     }
 }
 
 // Fills bytes with those from a place on.
 pub fn bytes_at(s: &[u8], at: usize, bytes: &mut [u8]) {
-    let mut from = at;
-    for byte in bytes {
-        *byte = byte_at(s, from);
-        from = from.saturating_add(1);
-    }
+    let given = part(s, at, bytes.len());
+    let n = given.len();
+    bytes[..n].copy_from_slice(given);
+    bytes[n..].fill(0);
 }
 
 // Sets the words that n pairs of a place of four bytes and a value of eight bytes name, where they are there.
 pub fn pairs_at(s: &[u8], at: usize, n: u32, words: &mut [u64]) {
-    let mut from = at;
-    for _ in 0..n {
+    for i in 0..n {
+        let from = at.saturating_add(12 * (i as usize));
         if let Some(word) = words.get_mut(word_at(s, from) as usize) {
             *word = double_at(s, from.saturating_add(4));
         }
-        from = from.saturating_add(12);
     }
 }
 

@@ -25,12 +25,20 @@ struct Whole;
 
 // Writes a claim's line.
 fn print_claim(rt: &impl Print, c: Claim) {
-    let _ = print!(rt;
-        " claim {} {} {} {}",
-        c.claim_type, c.outcome, c.payer, c.payee
+    let _ = println!(rt;
+        " claim {} {} {} {} {} {} {} {} {} {} {}",
+        c.claim_type,
+        c.outcome,
+        c.payer,
+        c.payee,
+        c.security,
+        c.row,
+        c.transfer,
+        c.interest.0,
+        c.principal.0,
+        c.release,
+        c.slot
     );
-    let _ = print!(rt; " {} {} {} {}", c.security, c.row, c.transfer, c.interest.0);
-    let _ = println!(rt; " {} {} {}", c.principal.0, c.release, c.slot);
 }
 
 // Writes the lines of the n claims in a buffer.
