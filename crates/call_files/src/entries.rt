@@ -64,7 +64,7 @@ impl Balances {
     }
 
     // Fills words with the balances.
-    pub fn fill(self, s: &[u8], words: &mut [u64]) {
+    fn fill(self, s: &[u8], words: &mut [u64]) {
         words.fill(0);
         pairs_at(
             s,
@@ -130,7 +130,7 @@ pub enum Entry<'a> {
 }
 
 // The book at a place.
-pub fn book_at(s: &[u8], at: usize) -> Book {
+pub(crate) fn book_at(s: &[u8], at: usize) -> Book {
     Book {
         day: word_at(s, at),
         count: word_at(s, at.saturating_add(4)),

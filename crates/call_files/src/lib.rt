@@ -28,7 +28,7 @@ pub struct Numbers {
 
 impl Numbers {
     // The numbers behind their count.
-    pub fn at(s: &[u8], at: usize) -> Numbers {
+    fn at(s: &[u8], at: usize) -> Numbers {
         Numbers {
             at: at.saturating_add(4),
             count: word_at(s, at),
@@ -36,7 +36,7 @@ impl Numbers {
     }
 
     // The place behind the numbers.
-    pub fn next(self) -> usize {
+    fn next(self) -> usize {
         self.at.saturating_add(4 * (self.count as usize))
     }
 
@@ -99,7 +99,7 @@ pub fn part(s: &[u8], at: usize, n: usize) -> &[u8]
 }
 
 // The byte at a place.
-pub fn byte_at(s: &[u8], at: usize) -> u8 {
+fn byte_at(s: &[u8], at: usize) -> u8 {
     s.get(at).copied().unwrap_or(0)
 }
 
@@ -116,7 +116,7 @@ pub fn half_at(s: &[u8], at: usize) -> u16 {
 }
 
 // The number of four bytes at a place.
-pub fn word_at(s: &[u8], at: usize) -> u32 {
+fn word_at(s: &[u8], at: usize) -> u32 {
     u32::from_le_bytes(array_at(s, at))
 }
 
@@ -126,14 +126,14 @@ pub fn double_at(s: &[u8], at: usize) -> u64 {
 }
 
 // Fills words with the numbers of four bytes each from a place on.
-pub fn words_at(s: &[u8], at: usize, words: &mut [u32]) {
+fn words_at(s: &[u8], at: usize, words: &mut [u32]) {
     for (i, word) in words.iter_mut().enumerate() {
         *word = word_at(s, at.saturating_add(i.saturating_mul(4)));
     }
 }
 
 // Fills bytes with those from a place on.
-pub fn bytes_at(s: &[u8], at: usize, bytes: &mut [u8]) {
+fn bytes_at(s: &[u8], at: usize, bytes: &mut [u8]) {
     let given = part(s, at, bytes.len());
     let n = given.len();
     bytes[..n].copy_from_slice(given);
@@ -141,7 +141,7 @@ pub fn bytes_at(s: &[u8], at: usize, bytes: &mut [u8]) {
 }
 
 // Sets the words that n pairs of a place of four bytes and a value of eight bytes name, where they are there.
-pub fn pairs_at(s: &[u8], at: usize, n: u32, words: &mut [u64]) {
+fn pairs_at(s: &[u8], at: usize, n: u32, words: &mut [u64]) {
     for i in 0..n {
         let from = at.saturating_add(12 * (i as usize));
         if let Some(word) = words.get_mut(word_at(s, from) as usize) {
@@ -168,7 +168,7 @@ pub fn checksum<T: Copy + Into<u64>>(numbers: &[T]) -> u64 {
 }
 
 // Fills a buffer with the remainders of the places by 251.
-pub fn fill(s: &mut [u8]) {
+fn fill(s: &mut [u8]) {
     for (i, byte) in s.iter_mut().enumerate() {
         *byte = (i % 251) as u8;
     }
@@ -176,7 +176,7 @@ pub fn fill(s: &mut [u8]) {
 
 impl Call {
     // The call with a number, and the place behind its lists, which stand at a place. Any number that is no other call's is a close's.
-    pub fn at(number: u8, s: &[u8], at: usize) -> (Call, usize) {
+    fn at(number: u8, s: &[u8], at: usize) -> (Call, usize) {
         match number {
             0 => (Call::Open, at),
             1 => (Call::Transfer, at),

@@ -17,7 +17,7 @@ use std::rt::Files;
 
 // What a step does.
 #[derive(Clone, Copy)]
-pub enum Task {
+enum Task {
     Call(Call),
     CarryOver,
     Mark(MarkCall),
@@ -28,11 +28,11 @@ pub enum Task {
 
 // A step: what it does, its name, its message, and the length of its claim buffer.
 #[derive(Clone, Copy)]
-pub struct Step<'a> {
-    pub task: Task,
-    pub name: &'a [u8],
-    pub message: &'a [u8],
-    pub room: usize,
+struct Step<'a> {
+    task: Task,
+    name: &'a [u8],
+    message: &'a [u8],
+    room: usize,
 }
 
 impl Task {
