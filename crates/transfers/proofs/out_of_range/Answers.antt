@@ -11,9 +11,7 @@ unfolding out_of_range
 returns-then-beyond c = rw (sym c.beyond.ensures ∙ c.if-beyond.true)
 
 pub security_type-requires : goal.security_type-requires
-security_type-requires c =
-    let s = c in
-    (s.requires, inside s.args.t (sym c.beyond.ensures ∙ c.if-beyond.false))
+security_type-requires c = inside c.args.t (sym c.beyond.ensures ∙ c.if-beyond.false)
 
 pub returns-then-security_type-eq0 : goal.returns-then-security_type-eq0
 unfolding out_of_range
