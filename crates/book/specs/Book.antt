@@ -1,7 +1,7 @@
 -- Document 01, section The book: positions and the words of the balances.
 use Rattle.std.specs.Prelude.{Bool, ◌&&◌, List, ℕ, ◌+◌, ◌*◌, ◌/◌, ◌%◌, ◌<◌, eqb, get_or}
 use Rattle.lists.specs.Tabulate.{tabulate}
-pub use Rattle.book.specs.declared.Position.{Position}
+use Rattle.book.specs.declared.Position.{Position}
 
 -- 8,192 words hold the balances, 4,096 of lending and then 4,096 of repo (document 02, card 3): 16 securities, 16 lenders, 16 borrowers
 -- each.

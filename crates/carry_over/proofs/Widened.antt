@@ -19,8 +19,11 @@ use Rattle.claims.specs.Close.{crossed, tracking_type, security_balances, lender
 use Rattle.claims.proofs.Crossed.{balance_word}
 use Rattle.claims.proofs.Turns.{loan_none}
 use Rattle.book.specs.declared.Book.{Book}
-use Rattle.book.specs.Book.{Position, word}
-use Rattle.book.specs.Loans.{tracking_of, step_of, increasing, decreasing, Change, unchanged, increase, decrease, by_sender, by_receiver, change_of, changed, above_balance, past_limit, clears_balance, off_piece}
+use Rattle.book.specs.declared.Position.{Position}
+use Rattle.book.specs.Book.{word}
+use Rattle.book.specs.declared.Change.{Change}
+use Rattle.book.specs.declared.Change.TheVariants.{Unchanged as unchanged, Increase as increase, Decrease as decrease}
+use Rattle.book.specs.Loans.{tracking_of, step_of, increasing, decreasing, by_sender, by_receiver, change_of, changed, above_balance, past_limit, clears_balance, off_piece}
 use Rattle.book.specs.Soundness.{wrong_length}
 use Rattle.book.proofs.Posted.{posted_length}
 use Rattle.history.specs.Calls.{TransferArguments, Call, transfer, close, buffer_of, claims_of}
