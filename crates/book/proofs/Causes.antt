@@ -17,8 +17,8 @@ use Rattle.std.specs.Option.{is_some}
 use Rattle.days.specs.declared.Date.{Date}
 use Rattle.days.specs.Days.{bad_calendar, is_open, open_after, as_day}
 use Rattle.securities.specs.Securities.{good_tables}
-use Rattle.book.specs.Book.{position}
 use Rattle.book.specs.declared.Position.{Position}
+use Rattle.book.specs.Book.{position}
 use Rattle.book.specs.Soundness.{wrong_length, bad_day, good_balance, good_balances_from, bad_balances, table_causes, state_causes, wrong_carry, carry_causes, present_causes}
 
 -- ---- one of two tests

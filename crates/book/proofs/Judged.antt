@@ -16,8 +16,8 @@ use Rattle.days.proofs.OpenDays.{Kept}
 use Rattle.securities.specs.Lent.{good_limits, good_pieces}
 use Rattle.securities.specs.Securities.{good_tables}
 use Rattle.securities.proofs.Sound.{five_limits}
-use Rattle.book.specs.Book.{InRange, word, position, balance_at}
 use Rattle.book.specs.declared.Position.{Position}
+use Rattle.book.specs.Book.{InRange, word, position, balance_at}
 use Rattle.book.specs.Soundness.{wrong_length, bad_day, good_balance, good_balances_from, bad_balances, table_causes, state_causes, book_causes, lent_causes, lent_book_causes, opening_causes}
 use Rattle.book.proofs.Words.{position_word, word_bound}
 

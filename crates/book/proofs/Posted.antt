@@ -15,11 +15,11 @@ use Rattle.lists.proofs.First.{cleared}
 use Rattle.days.specs.MemoDay.{memo_day, before_memo}
 use Rattle.records.specs.declared.Transfer.{Transfer}
 use Rattle.securities.specs.Lent.{piece_of}
-use Rattle.book.specs.Book.{InRange, word, position, balance_at}
 use Rattle.book.specs.declared.Position.{Position}
-use Rattle.book.specs.Loans.{tracking_of, step_of, increasing, decreasing, by_sender, by_receiver, change_of, changed, above_balance, past_limit, loan_causes, clears_balance, off_piece, lends_early, posting_causes}
+use Rattle.book.specs.Book.{InRange, word, position, balance_at}
 use Rattle.book.specs.declared.Change.{Change}
 use Rattle.book.specs.declared.Change.TheVariants.{Unchanged as unchanged, Increase as increase, Decrease as decrease}
+use Rattle.book.specs.Loans.{tracking_of, step_of, increasing, decreasing, by_sender, by_receiver, change_of, changed, above_balance, past_limit, loan_causes, clears_balance, off_piece, lends_early, posting_causes}
 use Rattle.book.specs.Soundness.{good_balance, good_balances_from, bad_balances}
 use Rattle.book.proofs.Words.{position_word, word_bound}
 use Rattle.book.proofs.Judged.{sound_balances}

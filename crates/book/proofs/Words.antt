@@ -12,8 +12,8 @@ use lib.Seq.{ext_get_or, get_or-set_same, get_or-set_other}
 use borrow.Author.Tests.{eqb-true, eq-eqb}
 use Rattle.lists.specs.Tests.{and_left, and_right}
 use Rattle.lists.specs.Tabulate.{length_tabulate, get_d_tabulate}
-use Rattle.book.specs.Book.{InRange, same, word, position, balance_at, layout}
 use Rattle.book.specs.declared.Position.{Position}
+use Rattle.book.specs.Book.{InRange, same, word, position, balance_at, layout}
 
 -- ---- words and positions
 

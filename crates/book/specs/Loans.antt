@@ -7,8 +7,8 @@ use Rattle.records.specs.declared.Transfer.{Transfer}
 use Rattle.securities.specs.Lent.{piece_of}
 use Rattle.book.specs.declared.Change.{Change}
 use Rattle.book.specs.declared.Change.TheVariants.{Unchanged as unchanged, Increase as increase, Decrease as decrease}
-use Rattle.book.specs.Book.{largest_balance, word, balance_at}
 use Rattle.book.specs.declared.Position.{Position}
+use Rattle.book.specs.Book.{largest_balance, word, balance_at}
 
 -- Codes 7 to 12 do for repo what 1 to 6 do for lending: the tracking of a code, and its place in the tracking.
 unfoldable pub tracking_of : ℕ → ℕ

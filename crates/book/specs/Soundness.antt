@@ -6,8 +6,8 @@ use Rattle.lists.specs.First.{Cause, cause}
 use Rattle.days.specs.Days.{calendar_words, bad_calendar, is_open, open_after}
 use Rattle.securities.specs.Lent.{good_limits, good_pieces}
 use Rattle.securities.specs.Securities.{table_words, good_tables}
-use Rattle.book.specs.Book.{balance_words, tracking_words, largest_balance, position}
 use Rattle.book.specs.declared.Position.{Position}
+use Rattle.book.specs.Book.{balance_words, tracking_words, largest_balance, position}
 
 -- Calendar, tables or balances of wrong length, where there should be so many balances: number 1.
 abbrev pub wrong_length_for : ℕ → List ℕ → List ℕ → List ℕ → Bool

@@ -7,9 +7,9 @@ use Rattle.book.specs.declared.Book.{Book}
 use Rattle.history.specs.Calls.{Call}
 use Rattle.history.specs.Results.{Run, Opened, left_open, run_by, run_from}
 use Rattle.history.proofs.ByValue.{runs_from}
-use Rattle.carry_over.specs.CarriedOver.{widened, carried}
+use Rattle.carry_over.specs.CarriedOver.{carried}
 use Rattle.carry_over.specs.LendingForm.{lending_result, lending_run}
-use Rattle.carry_over.specs.Statement.{NoRepo, with_repo_empty, EveryLendingList, EveryLaterList, EveryLaterCall}
+use Rattle.carry_over.specs.Statement.{with_repo_empty, EveryLendingList, EveryLaterList, EveryLaterCall}
 use Rattle.carry_over.proofs.Carried.{saved_words, number_is, carried_is}
 use Rattle.carry_over.proofs.Widened.{emptied, result_widened, lending_words}
 

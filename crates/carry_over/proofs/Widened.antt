@@ -8,22 +8,21 @@ use lib.Dec.{ltb, leb}
 use lib.ListN.{length, drop, replicate, length-drop, get_or-eq_default}
 use lib.Seq.{take-append-le, drop-append-le}
 use borrow.Author.Tests.{ltb-true, ltb-false, leb-false, lt-ltb, le-ltb, le-leb}
-use Rattle.lists.specs.Fields.{part}
 use Rattle.lists.specs.First.{first_of, with_test}
 use Rattle.lists.specs.Tabulate.{each, each_of}
 use Rattle.records.specs.declared.Transfer.{Transfer}
 use Rattle.records.specs.MessageRecords.{transfer_of}
 use Rattle.securities.specs.declared.Row.{Row}
 use Rattle.claims.specs.Amounts.{lending_type}
-use Rattle.claims.specs.Close.{crossed, tracking_type, security_balances, lender_balances, tracking_claims, row_claims, close_claims}
+use Rattle.claims.specs.Close.{crossed, tracking_type, security_balances, tracking_claims, row_claims, close_claims}
 use Rattle.claims.proofs.Crossed.{balance_word}
 use Rattle.claims.proofs.Turns.{loan_none}
 use Rattle.book.specs.declared.Book.{Book}
-use Rattle.book.specs.Book.{word}
 use Rattle.book.specs.declared.Position.{Position}
-use Rattle.book.specs.Loans.{tracking_of, step_of, increasing, decreasing, by_sender, by_receiver, change_of, changed, above_balance, past_limit, clears_balance, off_piece}
+use Rattle.book.specs.Book.{word}
 use Rattle.book.specs.declared.Change.{Change}
 use Rattle.book.specs.declared.Change.TheVariants.{Unchanged as unchanged, Increase as increase, Decrease as decrease}
+use Rattle.book.specs.Loans.{tracking_of, step_of, increasing, decreasing, by_sender, by_receiver, change_of, changed, above_balance, past_limit, clears_balance, off_piece}
 use Rattle.book.specs.Soundness.{wrong_length}
 use Rattle.book.proofs.Posted.{posted_length}
 use Rattle.history.specs.Calls.{TransferArguments, Call, transfer, close, buffer_of, claims_of}

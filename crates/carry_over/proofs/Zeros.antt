@@ -7,8 +7,8 @@ use native.Mathlib.Nat.{add-zero}
 use native.Mathlib.Omega.{arith}
 use lib.ListN.{length, get_or, set, replicate, length-append, length-replicate}
 use lib.Seq.{set-append_left}
-use Rattle.book.specs.Book.{word, position, balance_at}
 use Rattle.book.specs.declared.Position.{Position}
+use Rattle.book.specs.Book.{word, position, balance_at}
 use Rattle.book.specs.Soundness.{good_balance, good_balances_from, bad_balances}
 use Rattle.history.proofs.StaysSound.{good_zeros}
 use Rattle.carry_over.specs.CarriedOver.{widened}

@@ -15,12 +15,12 @@ pub fn carry_over(calendar: &[u32], book: Book, saved: &[u64], balances: &mut [u
     ensures { (left_open result balances.new ≡ carried calendar.now book saved.now balances.old)
         × (result.claims ≡ 0) }
 {
-    let number = judging::carry_number(calendar, book.day, saved, balances);
-    if number != 0 {
-        return book::refused(number, book);
+    if let Err(refusal) = judging::judge_carry(calendar, book.day, saved, balances) {
+        return Done::refused(refusal, book);
     }
-    book::clear(&mut balances[book::TRACKING_WORDS..]);
-    book::copy(saved, balances);
+    let (lending, repo) = balances.split_at_mut(book::TRACKING_WORDS);
+    lending.copy_from_slice(saved);
+    repo.fill(0);
     Done {
         number: 0,
         book,

@@ -14,9 +14,9 @@ use Rattle.records.specs.declared.Transfer.{Transfer}
 use Rattle.records.specs.MessageRecords.{transfer_kind, close_kind, transfer_of, reads}
 use Rattle.book.specs.declared.Book.{Book}
 use Rattle.book.specs.Book.{InRange}
-use Rattle.book.specs.Loans.{step_of, increasing, decreasing, by_sender, by_receiver, change_of, above_balance}
 use Rattle.book.specs.declared.Change.{Change}
 use Rattle.book.specs.declared.Change.TheVariants.{Unchanged as unchanged, Increase as increase, Decrease as decrease}
+use Rattle.book.specs.Loans.{step_of, increasing, decreasing, by_sender, by_receiver, change_of, above_balance}
 use Rattle.book.specs.Soundness.{book_causes, opening_causes}
 use Rattle.book.proofs.Posted.{tracking_range}
 use Rattle.book.proofs.Judged.{SoundBook, sound_book, lent_none, SoundOpening, sound_opening, numbered_opening}

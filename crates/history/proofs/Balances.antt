@@ -10,11 +10,11 @@ use lib.Dec.{eqb, ltb}
 use borrow.Author.Tests.{ltb-true, ltb-false, eqb-true, eq-eqb, ne_eqb}
 use Rattle.lists.specs.Tests.{and_left, and_right}
 use Rattle.records.specs.declared.Transfer.{Transfer}
-use Rattle.book.specs.Book.{InRange, same, balance_at, layout}
 use Rattle.book.specs.declared.Position.{Position}
-use Rattle.book.specs.Loans.{tracking_of, step_of, increasing, decreasing, by_sender, by_receiver, change_of, changed, above_balance}
+use Rattle.book.specs.Book.{InRange, same, balance_at, layout}
 use Rattle.book.specs.declared.Change.{Change}
 use Rattle.book.specs.declared.Change.TheVariants.{Unchanged as unchanged, Increase as increase, Decrease as decrease}
+use Rattle.book.specs.Loans.{tracking_of, step_of, increasing, decreasing, by_sender, by_receiver, change_of, changed, above_balance}
 use Rattle.book.proofs.Posted.{tracking_range}
 use Rattle.book.proofs.Words.{three, read, layout_write, same_refl, sameness}
 use Rattle.history.specs.Ledger.{is_increase, is_decrease}

@@ -23,8 +23,8 @@ use Rattle.claims.specs.declared.Parties.{Parties}
 use Rattle.claims.specs.Fails.{contract_tag, eligible, interim, Due, due, fails, dues, transfer_parties, transfer_claims}
 use Rattle.claims.specs.Close.{crossed, tracking_type, loan_parties, loan_claim, security_balances, lender_balances, tracking_claims, row_claims, close_claims}
 use Rattle.claims.proofs.Crossed.{balance_word}
-use Rattle.book.specs.Book.{word, balance_at}
 use Rattle.book.specs.declared.Position.{Position}
+use Rattle.book.specs.Book.{word, balance_at}
 use Rattle.book.proofs.Words.{three, three_refl}
 use Rattle.history.specs.Owed.{amounts, is_sent, is_failed}
 use Rattle.history.specs.Statement.{cents_in, counts, paid_in, paid}

@@ -15,8 +15,8 @@ use Rattle.claims.specs.Fails.{contract_tag}
 use Rattle.tags.specs.ContractDateTag.{edit_causes}
 use Rattle.book.specs.declared.Book.{Book}
 use Rattle.book.specs.Loans.{loan_causes}
-use Rattle.book.specs.Book.{position, largest_balance}
 use Rattle.book.specs.declared.Position.{Position}
+use Rattle.book.specs.Book.{position, largest_balance}
 use Rattle.book.specs.Soundness.{wrong_length, bad_day, good_balance, good_balances_from, bad_balances, table_causes, state_causes, book_causes, opening_causes}
 use Rattle.book.proofs.Judged.{kept, numbered_book, numbered_opening, sound_state}
 use Rattle.book.proofs.Posted.{posting_clear, posted_sound, posted_length}

@@ -25,8 +25,8 @@ use Rattle.claims.proofs.TableRows.{rising_numbers}
 use Rattle.claims.proofs.Written.{readings_written, all_read, all_read_append, length_written, behind_written}
 use Rattle.claims.proofs.Sizes.{fit_transfer, fit_close}
 use Rattle.book.specs.declared.Book.{Book}
-use Rattle.book.specs.Book.{InRange, balance_at, layout, word}
 use Rattle.book.specs.declared.Position.{Position}
+use Rattle.book.specs.Book.{InRange, balance_at, layout, word}
 use Rattle.book.proofs.Words.{length_layout, read, is_layout, word_bound}
 use Rattle.book.proofs.Judged.{kept}
 use Rattle.history.specs.Calls.{Call, transfer, close, buffer_of, claims_of}

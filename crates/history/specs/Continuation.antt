@@ -12,8 +12,8 @@ use Rattle.claims.specs.Amounts.{Part}
 use Rattle.claims.specs.declared.Parties.{Parties}
 use Rattle.claims.specs.Written.{AllRead}
 use Rattle.book.specs.declared.Book.{Book}
-use Rattle.book.specs.Book.{InRange}
 use Rattle.book.specs.declared.Position.{Position}
+use Rattle.book.specs.Book.{InRange}
 use Rattle.history.specs.Calls.{Call}
 use Rattle.history.specs.Results.{Run, run, opened}
 use Rattle.history.specs.Ledger.{Entry, Ledger, started, increases, decreases, book_of, balances_of, Judged, judged}

@@ -7,8 +7,8 @@ use Rattle.records.specs.declared.Transfer.{Transfer}
 use Rattle.records.specs.MessageRecords.{transfer_of}
 use Rattle.claims.specs.Written.{written}
 use Rattle.book.specs.declared.Book.{Book}
-use Rattle.book.specs.Book.{layout}
 use Rattle.book.specs.declared.Position.{Position}
+use Rattle.book.specs.Book.{layout}
 use Rattle.history.specs.Calls.{Call, transfer, close, buffer_of, claims_of}
 use Rattle.history.specs.Causes.{number_for}
 use Rattle.history.specs.Results.{Answer}

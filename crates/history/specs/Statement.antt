@@ -22,8 +22,8 @@ use Rattle.claims.specs.declared.Parties.{Parties}
 use Rattle.claims.specs.Fails.{dues}
 use Rattle.claims.specs.Close.{crosses, crossed}
 use Rattle.claims.specs.Written.{claim_size, readings, AllRead}
-use Rattle.book.specs.Book.{InRange}
 use Rattle.book.specs.declared.Position.{Position}
+use Rattle.book.specs.Book.{InRange}
 use Rattle.history.specs.Calls.{Call, transfer, close, buffer_of}
 use Rattle.history.specs.Causes.{causes}
 use Rattle.history.specs.Results.{Answer, Run, opened, run_from}

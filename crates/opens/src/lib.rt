@@ -12,17 +12,14 @@ pub fn open(calendar: &[u32], tables: &[u32], balances: &mut [u64], day: u32) ->
     ensures { (left_open result balances.new ≡ opened calendar.now tables.now balances.old day)
         × (result.claims ≡ 0) }
 {
-    let number = judging::opening_number(calendar, tables, balances, day);
-    if number != 0 {
-        return book::refused(
-            number,
-            Book {
-                day: Date::FIRST.0,
-                count: 0,
-            },
-        );
+    if let Err(refusal) = judging::judge_opening(calendar, tables, balances, day) {
+        let first = Book {
+            day: Date::FIRST.0,
+            count: 0,
+        };
+        return Done::refused(refusal, first);
     }
-    book::clear(balances);
+    balances.fill(0);
     Done {
         number: 0,
         book: Book { day, count: 0 },

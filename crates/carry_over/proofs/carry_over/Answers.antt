@@ -1,39 +1,43 @@
--- A refused move leaves the balances; an accepted one clears the words of repo and copies the saved ones before them.
-use mathlib.Core.Path.{refl}
+-- A refused move leaves the balances; an accepted one copies the saved ones and clears the words of repo behind them.
+use mathlib.Core.Path.{◌≡◌, refl, sym, ap, ap₂, ◌∙◌}
+use mathlib.Core.List.{List, ◌++◌}
+use Prim.Native.Nat.{ℕ}
 use native.Mathlib.Omega.{arith}
-use Rattle.carry_over.specs.CarriedOver.{carry_number}
-use Rattle.carry_over.proofs.Carried.{from_word, saved_fits, carry_refused, carry_accepted}
+use lib.ListN.{length, replicate}
 use borrow.Author.Rules.{rules}
+use Rattle.records.specs.Refusals.{judged_number}
+use Rattle.records.proofs.Refusals.{refused_number}
+use Rattle.carry_over.specs.CarriedOver.{widened, carry_number}
+use Rattle.carry_over.proofs.Carried.{saved_words, filled_words, carry_refused, carry_accepted}
 use Rattle.carry_over.proofs.carry_over.Goals as goal
 
-pub returns-then-number-ne0 : goal.returns-then-number-ne0
-unfolding carry_number
-returns-then-number-ne0 c =
+pub returns-in-Err : goal.returns-in-Err
+unfolding carry_number judged_number
+returns-in-Err c =
     let a = c.args in
-    rw c.refused.ensures
-    (carry_refused a.calendar.now a.book a.saved.now a.balances.now _ c.carry_number-number.ensures c.if-number-ne0.true, refl)
+    rw c.refused.ensures (carry_refused a.calendar.now a.book a.saved.now a.balances.now _ c.in-Err.ensures (refused_number _), refl)
 
-pub slice_bounds-clear-count : goal.slice_bounds-clear-count
-unfolding carry_number
-slice_bounds-clear-count c =
+pub split_at_mut-lending-requires : goal.split_at_mut-lending-requires
+unfolding carry_number judged_number
+split_at_mut-lending-requires c =
     let a = c.args in
-    from_word a.calendar.now a.book a.saved.now a.balances.now _ _ (omega arith) c.carry_number-number.ensures c.if-number-ne0.false
+    omega (arith, filled_words a.calendar.now a.book a.saved.now a.balances.now (sym c.in_default.ensures))
 
-pub slice_bounds-clear-start : goal.slice_bounds-clear-start
-slice_bounds-clear-start c = slice_bounds-clear-count c
-
-pub copy-requires : goal.copy-requires
-unfolding carry_number
-copy-requires c =
+pub copy_from_slice-requires : goal.copy_from_slice-requires
+unfolding carry_number judged_number
+copy_from_slice-requires c =
     let a = c.args in
-    saved_fits a.calendar.now a.book a.saved.now a.balances.now _ _ c.carry_number-number.ensures
-    c.if-number-ne0.false _ c.clear.ensures
+    c.split_at_mut-lending.ensures.front_len ∙ sym (saved_words a.calendar.now a.book a.saved.now a.balances.now (sym c.in_default.ensures))
 
 pub returns : goal.returns
-unfolding carry_number
+unfolding carry_number judged_number widened
 returns c =
-    let a = c.args in (
-      carry_accepted a.calendar.now a.book a.saved.now a.balances.now _ _ _ c.carry_number-number.ensures c.if-number-ne0.false
-          c.clear.ensures c.copy.ensures,
+    let a = c.args in
+    let f = filled_words a.calendar.now a.book a.saved.now a.balances.now (sym c.in_default.ensures) in
+    let s : c.copy_from_slice.new.self ≡ a.saved.now = search rules in
+    let z : c.fill.new.self ≡ replicate (length c.split_at_mut-lending.result.1.now) 0 = search rules in
+    let n : length c.split_at_mut-lending.result.1.now ≡ 4096 = omega (arith, c.split_at_mut-lending.ensures.back_len, f) in (
+      carry_accepted a.calendar.now a.book a.saved.now a.balances.now _ c.in_default.ensures
+          (ap₂ (λ (l r : List ℕ). l ++ r) s (z ∙ ap (λ (k : ℕ). replicate k 0) n)),
       refl,
     )
