@@ -1,5 +1,5 @@
 -- Each group of causes is judged in the table's order; the last decides.
-use mathlib.Core.Path.{sym, ap, ◌∙◌}
+use mathlib.Core.Path.{sym, ◌∙◌}
 use Rattle.std.proofs.lemmas.Result.{err_from_is_err_and}
 use Rattle.records.specs.Refusals.{refusal_number, judged_number}
 use Rattle.records.proofs.Refusals.{judged_is, judged_none, refused_number}

@@ -3,7 +3,6 @@ use mathlib.Core.Path.{sym, ◌∙◌}
 use borrow.Author.Tests.{eq-eqb, ne_eqb, lt-ltb, le-ltb}
 use Rattle.history.specs.Causes.{out_of_range}
 use Rattle.transfers.proofs.Numbers.{inside}
-use borrow.Author.Rules.{rules}
 use Rattle.transfers.proofs.out_of_range.Goals as goal
 
 pub returns-then-beyond : goal.returns-then-beyond
