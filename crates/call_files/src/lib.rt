@@ -249,10 +249,13 @@ impl MarkCall {
         mark: u32,
     ) -> Done {
         match self {
-            MarkCall::Set => Done {
-                number: marks::set_mark(calendar, book, balances, store, mark),
-                book,
-                claims: 0,
+            MarkCall::Set => match marks::set_mark(calendar, book, balances, store, mark) {
+                Ok(()) => Done {
+                    number: 0,
+                    book,
+                    claims: 0,
+                },
+                Err(refusal) => Done::refused(refusal, book),
             },
             MarkCall::Return => marks::return_to_mark(calendar, book, balances, store, mark),
         }

@@ -12,7 +12,7 @@
 use book::Done;
 use call_files::steps::{Lines, run};
 use call_files::{checksum, part};
-use records::{Claim, ReadClaim};
+use records::Claim;
 
 // The bytes of a claim record.
 const CLAIM_BYTES: usize = 35;
@@ -45,8 +45,8 @@ fn print_claim(rt: &impl Print, c: Claim) {
 fn print_claims(rt: &impl Print, claims: &[u8], n: usize) {
     for i in 0..n {
         match reading::read_claim(part(claims, i.saturating_mul(CLAIM_BYTES), CLAIM_BYTES)) {
-            ReadClaim::Is(claim) => print_claim(rt, claim),
-            ReadClaim::Refused => {
+            Some(claim) => print_claim(rt, claim),
+            None => {
                 let _ = println!(rt; " no claim");
             }
         }

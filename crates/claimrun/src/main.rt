@@ -166,13 +166,13 @@ fn serve_book(
     rt: &(impl Print + Eprint + Clock + Alloc),
     from: &mut impl Read,
     file: &[u8],
-    calendar: &mut [u32],
-    tables: &mut [u32],
+    calendar: &mut [u32; 480],
+    tables: &mut [u32; 1824],
     balances: &mut [u64],
     input: &mut [u8],
     output: &mut [u8],
 ) -> Held
-    requires { (length calendar.old ≡ 480) × (length tables.old ≡ 1824) × (6 ≤ length output.old) }
+    requires { 6 ≤ length output.old }
     ensures { RanBook (begins file.now calendar.old tables.old balances.old output.old)
         input.old result balances.new input.new }
 {

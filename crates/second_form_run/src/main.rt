@@ -7,7 +7,7 @@
 ghost use Rattle.std.specs.Prelude.{◌≤◌, ◌<◌};
 
 use book::{Book, Done};
-use records::{ReadClaim, Transfer};
+use records::Transfer;
 
 // The word of the balances for the par of security 0 that account 1 has lent account 2.
 const LENT: usize = 18;
@@ -124,8 +124,8 @@ fn loan(code: u8, sender: u8, receiver: u8, par: u32) -> Transfer {
 // Writes the interest of the claim that a buffer begins with.
 fn print_cents(rt: &impl Print, claims: &[u8]) {
     let _ = match reading::read_claim(claims) {
-        ReadClaim::Is(claim) => println!(rt; "cents {}", claim.interest.0),
-        ReadClaim::Refused => println!(rt; "no claim"),
+        Some(claim) => println!(rt; "cents {}", claim.interest.0),
+        None => println!(rt; "no claim"),
     };
 }
 
@@ -174,7 +174,7 @@ impl Run {
     fn transfer(&mut self, rt: &impl Print, name: &str, piece: u32, fields: Transfer) {
         let line = [32u8; 64];
         let mut message = [0u8; 141];
-        writing::write_transfer(&mut message, fields, &line, &line);
+        let _ = writing::write_transfer(&mut message, fields, &line, &line);
         let mut claims = [0u8; 35];
         let mut pieces = [1u32; 16];
         pieces[0] = piece;
@@ -193,7 +193,7 @@ impl Run {
     // Makes a close.
     fn close(&mut self, rt: &impl Print, name: &str, claims: &mut [u8]) {
         let mut message = [0u8; 4];
-        writing::write_close(&mut message);
+        let _ = writing::write_close(&mut message);
         let done = self.form.close(
             &self.calendar,
             &self.tables,

@@ -43,7 +43,7 @@ fn stream_at(s: &[u8], at: usize) -> (Stream<'_>, usize) {
 // Whether the answer with a number, and nothing else, should be written.
 fn is_answer(number: u16, expected: &[u8]) -> bool {
     let mut out = [0u8; 6];
-    writing::write_answer(&mut out, Answer { number });
+    let _ = writing::write_answer(&mut out, Answer { number });
     out.as_slice() == expected
 }
 
