@@ -12,9 +12,8 @@ use Rattle.lists.specs.Tests.{and_left, and_right, and_both, or_false_right}
 use Rattle.lists.specs.All.{all}
 use Rattle.lists.specs.First.{first_of, applies_at, hit, skip, none}
 use Rattle.lists.proofs.First.{cleared}
-use Rattle.days.specs.Days.{is_date, open_after, as_day}
+use Rattle.days.specs.Days.{is_date, open_at, open_after, as_day}
 use Rattle.days.specs.declared.Date.{Date}
-use Rattle.days.proofs.OpenDays.{after_none}
 use Rattle.records.specs.MessageRecords.{close_kind, reads}
 use Rattle.claims.specs.Close.{close_claims}
 use Rattle.claims.specs.Turns.{small, SoundClose}
@@ -50,8 +49,8 @@ module _ (calendar tables : List ℕ) (book : Book) (balances : List ℕ) (a : A
 
 -- where no open day follows, none follows the number 0 either
 pub no_later : (calendar : List ℕ) (day : ℕ) → open_after calendar day ≡ 0 → open_after calendar (open_after calendar day) ≡ 0
-unfolding is_date
-no_later calendar day z = rw z (after_none calendar 0 refl)
+unfolding open_after open_at is_date
+no_later calendar day z = rw z refl
 
 -- what a test of a search's answer says of the number
 module _ (n : ℕ) {r : Option Date} (e : r ≡ as_day n) where
@@ -68,7 +67,7 @@ module _ (n : ℕ) {r : Option Date} (e : r ≡ as_day n) where
 
   pub one_found : {b : Bool} → is_some r ≡ not b → b ≡ false → n ≡ 0 → ⊥
   unfolding as_day
-  one_found q f z = true≢false (sym q' ∙ sym (ap is_some (e ∙ ap as_day z)))
+  one_found q f z = true≢false (sym q' ∙ ap is_some (e ∙ ap as_day z))
     where
       q' : is_some r ≡ true
       q' = q ∙ ap not f

@@ -55,9 +55,12 @@ pass_close-n-requires c =
     let a = c.args in
     let m = a.market.now in
     let k = judged.sound_number _ _ _ _ c.requires in
-    let next : c.in-Some.next.0 ≡ open_after m.calendar a.book.day = on_day_lem _ c.open_after.ensures c.in-Some.is in
-    (sound_close _ _ _ _ _ k next, k.tables_sound.balance_words_lem, small_balances _ _ _ _ c.requires,
-    free_count _ _ (omega (arith, close_few m.calendar m.tables a.book.day a.balances.now)))
+    let next : c.in-Some.next.0 ≡ open_after m.calendar a.book.day = on_day_lem _ c.open_after.ensures c.in-Some.is in (
+      sound_close _ _ _ _ _ k next,
+      k.tables_sound.balance_words_lem,
+      small_balances _ _ _ _ c.requires,
+      free_count _ _ (omega (arith, close_few m.calendar m.tables a.book.day a.balances.now)),
+    )
 
 pub overflow_mul-n : goal.overflow_mul-n
 overflow_mul-n c =
@@ -86,8 +89,7 @@ store-m-requires c =
     let m = a.market.now in
     let k = judged.sound_number _ _ _ _ c.requires in
     let p = c.pass_close-n.ensures in
-    let next : c.in-Some.next.0 ≡ open_after m.calendar a.book.day = on_day_lem _ c.open_after.ensures c.in-Some.is in
-    (
+    let next : c.in-Some.next.0 ≡ open_after m.calendar a.book.day = on_day_lem _ c.open_after.ensures c.in-Some.is in (
       sound_close _ _ _ _ _ k next,
       k.tables_sound.balance_words_lem,
       small_balances _ _ _ _ c.requires,
