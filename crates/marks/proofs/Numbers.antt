@@ -1,32 +1,20 @@
 -- The numbers of both calls, from the tests of the code, and what number 0 says.
-use mathlib.Core.Path.{◌≡◌, refl, ap, ◌∙◌}
+use mathlib.Core.Path.{◌≡◌, refl, ◌∙◌}
 use mathlib.Core.Bool.{Bool, true, false, cond, not, ◌||◌}
 use mathlib.Core.List.{List, []}
-use Prim.Native.Nat.{ℕ, ◌+◌, ◌-◌, ◌≤◌, ◌<◌}
+use Prim.Native.Nat.{ℕ, ◌+◌, ◌≤◌, ◌<◌}
 use native.Mathlib.Omega.{arith}
 use lib.Dec.{eqb, ltb, leb}
 use lib.ListN.{length, get_or, drop}
-use borrow.Author.Tests.{eqb-true, eq-eqb, ne_eqb, le-leb, lt-leb, leb-true, lt-ltb, le-ltb, ltb-false, not-false}
+use borrow.Author.Tests.{eqb-true, eq-eqb, ne_eqb, le-leb, lt-leb, leb-true, lt-ltb, le-ltb, not-false}
 use Rattle.lists.specs.Tests.{and_left, and_right, or_false_left, or_false_right}
 use Rattle.lists.specs.First.{first_of, numbered, hit, skip, none, numbered_append, none_applies, first_none, none_left, none_right}
-use Rattle.lists.proofs.First.{hit_group, skip_group}
 use Rattle.days.specs.Days.{is_date, is_open}
-use Rattle.days.proofs.OpenDays.{open_date}
-use Rattle.days.proofs.Parts.{parts}
 use Rattle.book.specs.Soundness.{bad_day, bad_balances, state_causes, present_causes}
-use Rattle.book.proofs.Causes.{or_left, or_right, numbered_present, present_calendar_length, present_balance_length}
-use Rattle.book.proofs.Judged.{sound_day}
+use Rattle.book.proofs.Causes.{or_left, or_right, unless, numbered_present, present_calendar_length, present_balance_length}
 use Rattle.marks.specs.Marks.{is_mark, place_of, mark_in, is_set, day_in, count_in, balances_in, store_causes, bad_mark, saved_causes, set_causes, return_causes}
 
 -- ---- marks 1 to 4
-
-pub mark_zero : (k : ℕ) → k ≡ 0 → false ≡ is_mark k
-unfolding is_mark
-mark_zero k e = rw e
-
-pub mark_above : (k : ℕ) → (k ≡ 0 → ⊥) → leb k 4 ≡ is_mark k
-unfolding is_mark
-mark_above k n = rw (le-leb 1 k (omega (arith, n)))
 
 pub mark_range : (k : ℕ) → is_mark k ≡ true → (1 ≤ k) × (k ≤ 4)
 unfolding is_mark
@@ -40,29 +28,17 @@ place_fits k e = let r = mark_range k e in omega (arith, r.0, r.1)
 -- ---- setting
 
 module _ (calendar : List ℕ) (day : ℕ) (balances store : List ℕ) (k : ℕ) where
-  pub set_present : {n : ℕ} → n ≡ first_of (present_causes calendar day balances) → (n ≡ 0 → ⊥) → n ≡ first_of (set_causes calendar day balances store k)
-  unfolding set_causes
-  set_present e h = hit_group (present_causes calendar day balances) (store_causes store k) e h
-
-  behind_present : {n m : ℕ} → n ≡ first_of (present_causes calendar day balances) → n ≡ 0 → m ≡ first_of (store_causes store k)
-      → m ≡ first_of (set_causes calendar day balances store k)
-  unfolding set_causes
-  behind_present e z f = skip_group (present_causes calendar day balances) (store_causes store k) (numbered_present calendar day balances) e z f
-
-  pub set_no_mark : {n : ℕ} → n ≡ first_of (present_causes calendar day balances) → n ≡ 0 → not (is_mark k) ≡ true
-      → 16 ≡ first_of (set_causes calendar day balances store k)
+  pub no_mark : ((is_mark k ≡ true) × (length store ≡ 32780) → ⊥) → 16 ≡ first_of (store_causes store k)
   unfolding store_causes
-  set_no_mark e z f = behind_present e z (hit 16 [] (or_left _ (not (eqb (length store) 32780)) f))
+  no_mark h = hit 16 [] (go (is_mark k) refl)
+    where
+      go : (b : Bool) → is_mark k ≡ b → not b || not (eqb (length store) 32780) ≡ true
+      go true m = unless _ (λ l. h (m, eqb-true (length store) 32780 l))
+      go false m = refl
 
-  pub set_wrong_store : {n : ℕ} → n ≡ first_of (present_causes calendar day balances) → n ≡ 0 → (length store ≡ 32780 → ⊥)
-      → 16 ≡ first_of (set_causes calendar day balances store k)
+  pub mark_there : is_mark k ≡ true → length store ≡ 32780 → ◌≡◌ {A = ℕ} 0 (first_of (store_causes store k))
   unfolding store_causes
-  set_wrong_store e z f = behind_present e z (hit 16 [] (or_right (not (is_mark k)) _ (ap not (ne_eqb (length store) 32780 f))))
-
-  pub set_clear : {n : ℕ} → n ≡ first_of (present_causes calendar day balances) → n ≡ 0 → not (is_mark k) ≡ false → length store ≡ 32780
-      → ◌≡◌ {A = ℕ} 0 (first_of (set_causes calendar day balances store k))
-  unfolding store_causes
-  set_clear e z f l = behind_present e z (skip 16 [] (rw (f, eq-eqb (length store) 32780 l)) none)
+  mark_there m l = skip 16 [] (rw (m, eq-eqb (length store) 32780 l)) none
 
   -- ---- what number 0 says
 
@@ -97,18 +73,6 @@ module _ (calendar : List ℕ) (day : ℕ) (balances store : List ℕ) (k : ℕ)
 
   -- ---- going back
 
-  pub return_set : {n : ℕ} → n ≡ first_of (set_causes calendar day balances store k) → (n ≡ 0 → ⊥)
-      → n ≡ first_of (return_causes calendar day balances store k)
-  unfolding return_causes
-  return_set e h = hit_group (set_causes calendar day balances store k) (saved_causes calendar (mark_in store k)) e h
-
-  pub return_saved : {n m : ℕ} (words : List ℕ) → n ≡ first_of (set_causes calendar day balances store k) → n ≡ 0 → words ≡ mark_in store k
-      → m ≡ first_of (saved_causes calendar words) → m ≡ first_of (return_causes calendar day balances store k)
-  unfolding return_causes
-  return_saved words e z w f =
-      skip_group (set_causes calendar day balances store k) (saved_causes calendar (mark_in store k)) numbered_set e z
-      (f ∙ ap (λ (l : List ℕ). first_of (saved_causes calendar l)) w)
-
   numbered_saved : numbered (saved_causes calendar (mark_in store k)) ≡ true
   unfolding saved_causes numbered
   numbered_saved = refl
@@ -133,9 +97,9 @@ module _ (calendar words : List ℕ) where
   unfolding saved_causes bad_mark is_set
   saved_unset h = hit 17 [] (rw (ne_eqb (get_or words 0 0) 1 h))
 
-  pub saved_count : 4294967295 < get_or words 2 0 → 17 ≡ first_of (saved_causes calendar words)
+  pub saved_count : (get_or words 2 0 < 4294967296 → ⊥) → 17 ≡ first_of (saved_causes calendar words)
   unfolding saved_causes bad_mark count_in
-  saved_count h = hit 17 [] (or_left _ _ (or_left _ _ (or_right (not (is_set words)) _ (lt-ltb 4294967295 (get_or words 2 0) h))))
+  saved_count h = hit 17 [] (or_left _ _ (or_left _ _ (or_right (not (is_set words)) _ (lt-ltb 4294967295 (get_or words 2 0) (omega (arith, h))))))
 
   -- no date has more than 32 bits
   past_dates : 4294967295 < day_in words → bad_day calendar (day_in words) ≡ true
@@ -146,9 +110,9 @@ module _ (calendar words : List ℕ) where
   unfolding saved_causes bad_mark
   bad_day_lem e = hit 17 [] (or_left _ _ (or_right (not (is_set words) || ltb 4294967295 (count_in words)) _ e))
 
-  pub saved_day : 4294967295 < get_or words 1 0 → 17 ≡ first_of (saved_causes calendar words)
+  pub saved_day : (get_or words 1 0 < 4294967296 → ⊥) → 17 ≡ first_of (saved_causes calendar words)
   unfolding day_in
-  saved_day h = bad_day_lem (past_dates h)
+  saved_day h = bad_day_lem (past_dates (omega (arith, h)))
 
   -- day and balances as number 4 judges them
   judged : (n : ℕ) → n ≡ first_of (state_causes calendar (day_in words) (balances_in words)) → (b : Bool)
@@ -176,18 +140,3 @@ module _ (calendar words : List ℕ) where
       go true b q = absurd (omega (arith, q, z))
       go false true q = absurd (omega (arith, q, z))
       go false false q = refl
-
-  -- what number 0 says of the day and the count
-  module _ (z : bad_mark calendar words ≡ false) where
-    pub saved_count_fits : count_in words ≤ 4294967295
-    unfolding bad_mark
-    saved_count_fits =
-        ltb-false 4294967295 (count_in words)
-        (or_false_right (not (is_set words)) _ (or_false_left _ (bad_day calendar (day_in words)) (or_false_left _ (bad_balances (balances_in words)) z)))
-
-    pub saved_day_fits : day_in words ≤ 4294967295
-    unfolding bad_mark
-    saved_day_fits =
-        let d = sound_day calendar (day_in words) (or_false_right (not (is_set words) || ltb 4294967295 (count_in words)) _ (or_false_left _ (bad_balances (balances_in words)) z)) in
-        let p = parts (day_in words) (open_date calendar (day_in words) d.open_day) in
-        omega (arith, p.to)

@@ -1,12 +1,12 @@
 -- A refusal and its number: none has the number 0, and no two have one number.
 use mathlib.Core.Path.{◌≡◌, refl, sym, ap, ◌∙◌}
-use mathlib.Core.Bool.{true, cond}
+use mathlib.Core.Bool.{true, false, cond, true≢false}
 use mathlib.Core.List.{List, ◌++◌}
 use Prim.Native.Nat.{ℕ, ◌<◌}
 use native.Mathlib.Omega.{arith}
 use lib.Dec.{eqb}
 use Rattle.std.proofs.Common.{Result, Ok, Err}
-use Rattle.std.specs.Result.{IsErrAnd}
+use Rattle.std.specs.Result.{IsErrAnd, is_ok}
 use Rattle.std.proofs.lemmas.Result.{err_from_is_err_and}
 use Rattle.lists.specs.First.{Cause, first_of, numbered, first_group, next_group, none_applies}
 use Rattle.records.specs.declared.Refusal.{Refusal}
@@ -86,6 +86,17 @@ judged_is e q = sym (ap judged_number q) ∙ e
 pub judged_none : {A : Type 0} {n : ℕ} {r : Result A Refusal} {u : A} → judged_number r ≡ n → r ≡ Ok u → n ≡ 0
 unfolding judged_number
 judged_none e q = sym e ∙ ap judged_number q
+
+-- what a judgement says of its number
+pub failed : {A : Type 0} (r : Result A Refusal) → is_ok r ≡ false → judged_number r ≡ 0 → ⊥
+unfolding judged_number
+failed (Ok x) e z = true≢false e
+failed (Err f) e z = refused_number f z
+
+pub passed : {A : Type 0} (r : Result A Refusal) → is_ok r ≡ true → judged_number r ≡ 0
+unfolding judged_number
+passed (Ok x) e = refl
+passed (Err f) e = absurd (true≢false (sym e))
 
 -- ---- a judgement that `?` hands on, in a table of causes that goes on after those of the judgement
 

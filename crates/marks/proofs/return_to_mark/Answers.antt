@@ -1,30 +1,27 @@
 -- A refused return leaves the balances; an accepted one takes up what the mark holds.
-use mathlib.Core.Path.{refl, sym, ◌∙◌}
-use borrow.Author.Rules.{rules}
+use mathlib.Core.Path.{refl, sym, ap, ◌∙◌}
+use lib.ListN.{length}
+use Rattle.records.specs.Refusals.{judged_number}
+use Rattle.records.proofs.Refusals.{refused_number}
 use Rattle.marks.specs.Marks.{return_number}
-use Rattle.marks.proofs.Numbers.{set_balances, set_mark, set_store, return_sets, return_good, saved_day_fits, saved_count_fits}
-use Rattle.marks.proofs.Stored.{mark_length, return_refused, return_accepted}
+use Rattle.marks.proofs.Numbers.{set_balances, set_mark, set_store, return_sets}
+use Rattle.marks.proofs.Stored.{return_refused, return_accepted, balances_held}
 use Rattle.marks.proofs.return_to_mark.Goals as goal
 
-pub returns-then-number-ne0 : goal.returns-then-number-ne0
-unfolding return_number
-returns-then-number-ne0 c =
-    rw c.refused.ensures (return_refused _ _ _ _ _ c.return_number-number.ensures c.if-number-ne0.true, refl)
+pub copy_from_slice-requires : goal.copy_from_slice-requires
+unfolding judged_number
+copy_from_slice-requires c =
+    let a = c.args in
+    let z = return_sets _ _ _ _ _ (sym c.in-Ok.ensures.number) in
+    let h = balances_held a.calendar.now a.book a.balances.now a.store.now a.mark (set_mark _ _ _ _ _ z) (set_store _ _ _ _ _ z) in
+    set_balances _ _ _ _ _ z ∙ sym (ap length c.in-Ok.ensures.value.1 ∙ h)
 
-pub words_of-requires : goal.words_of-requires
-words_of-requires c =
-    let z = return_sets _ _ _ _ _ (sym c.return_number-number.ensures ∙ c.if-number-ne0.false) in (set_mark _ _ _ _ _ z, set_store _ _ _ _ _ z)
+pub returns-in-Ok : goal.returns-in-Ok
+unfolding return_number judged_number
+returns-in-Ok c =
+    let v = c.in-Ok.ensures.value in
+    (return_accepted _ _ _ _ _ c.in-Ok.ensures.number v.0 (c.copy_from_slice.ensures.after ∙ v.1), refl)
 
-pub take_up-requires : goal.take_up-requires
-take_up-requires c =
-    let z = sym c.return_number-number.ensures ∙ c.if-number-ne0.false in
-    let s = return_sets _ _ _ _ _ z in
-    let g = return_good _ _ _ _ _ z in
-    let w = c.words_of.ensures in
-    rw w (mark_length _ _ (set_mark _ _ _ _ _ s) (set_store _ _ _ _ _ s), set_balances _ _ _ _ _ s, saved_day_fits _ _ g, saved_count_fits _ _ g)
-
-pub returns : goal.returns
-unfolding return_number
-returns c =
-    let t = c.take_up.ensures in
-    (t.0 ∙ return_accepted _ _ _ _ _ _ c.return_number-number.ensures c.if-number-ne0.false c.words_of.ensures, t.1)
+pub returns-in-Err : goal.returns-in-Err
+unfolding return_number judged_number
+returns-in-Err c = rw c.refused.ensures (return_refused _ _ _ _ _ c.in-Err.ensures.number (refused_number _), refl)
