@@ -10,7 +10,7 @@ ghost use Rattle.std.specs.Prelude.{◌≡◌, true, ◌-◌, ◌≤◌, ◌<◌
 ghost use Rattle.days.specs.Days.{is_date};
 ghost use Rattle.securities.specs.Securities.{security_of, frequency_of};
 ghost use Rattle.claims.specs.Passes.{Free, Passed};
-ghost use Rattle.claims.specs.Reached.{is_reached, reached_from, reached_rows, interim_end, is_waiting, waiting_row, after_both, first_before, Claiming};
+ghost use Rattle.claims.specs.Reached.{is_reached, reached_from, reached_rows, interim_end, is_waiting, waiting_row, after_both, Claiming};
 ghost use Rattle.fails.specs.Recent.{column, untagged_rows, rows_before, rows_now, recent_rows, due_type, recent_claims};
 
 use amounts::ClaimType;
@@ -129,16 +129,7 @@ fn waiting_row(
 fn after_both(contract: u32, from: u32) -> u32
     ensures { result ≡ after_both contract from }
 {
-    if contract < from { from - 1 } else { contract }
-}
-
-// The first row that may be claimed before the 2023 memo: of MBS the first of all, of other types the one behind the reached rows.
-#[tactic(auto, unfolding(claims::specs::Reached::first_before))]
-fn first_before(tables: &Tables<'_>, security: u8, day: u32, reached: u8) -> u8
-    requires { (security < 16) × (reached ≡ reached_rows tables.now security day) }
-    ensures { result ≡ first_before tables.now security day }
-{
-    if tables.is_mbs(security) { 0 } else { reached }
+    contract.max(from.saturating_sub(1))
 }
 
 // The rows of a transfer without a date in its tag: none is claimed as failed.
@@ -157,8 +148,8 @@ fn untagged_rows(tables: &Tables<'_>, day: u32, t: Transfer) -> Recent
     }
 }
 
-// The rows of a transfer with a Contract Date before the 2023 memo: of MBS all that are reached, within the half year.
-#[tactic(auto, unfolding(crate::specs::Recent::rows_before, crate::specs::Recent::untagged_rows))]
+// The rows of a transfer with a Contract Date before the 2023 memo: of MBS all that are reached, within the half year; of other types none.
+#[tactic(auto, unfolding(crate::specs::Recent::rows_before, crate::specs::Recent::untagged_rows, claims::specs::Reached::first_before))]
 fn rows_before(
     tables: &Tables<'_>,
     day: u32,
@@ -171,7 +162,11 @@ fn rows_before(
 {
     Recent {
         after: after_both(contract, days::six_months_before(day)),
-        first: first_before(tables, t.security, day, untagged.reached),
+        first: if tables.is_mbs(t.security) {
+            0
+        } else {
+            untagged.reached
+        },
         ..untagged
     }
 }

@@ -77,8 +77,8 @@ impl Entry<'_> {
         ensures { Passed write buffer.old buffer.new n result (lender_level self.now lender lent.now) }
     {
         let mut m = n;
-        for borrower in 0..ACCOUNTS {
-            m = self.pass_loan(write, buffer, m, lender, borrower, lent[borrower as usize]);
+        for (borrower, par) in lent.iter().enumerate() {
+            m = self.pass_loan(write, buffer, m, lender, borrower as u8, *par);
         }
         m
     }
