@@ -31,7 +31,12 @@ fn put_bytes(buffer: &mut [u8], at: usize, bytes: &[u8])
 }
 
 // A transfer with its two lines of free text, written to the buffer's start.
-pub fn write_transfer(buffer: &mut [u8], t: Transfer, first: &[u8; 64], second: &[u8; 64]) -> Result<(), Refusal>
+pub fn write_transfer(
+    buffer: &mut [u8],
+    t: Transfer,
+    first: &[u8; 64],
+    second: &[u8; 64],
+) -> Result<(), Refusal>
     ensures { record { number = wrote_number result; buffer = buffer.new }
         ≡ writing transfer_kind (transfer_values t) (first.now ++ second.now) buffer.old }
 {
