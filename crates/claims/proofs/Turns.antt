@@ -11,7 +11,7 @@ use lib.Seq.{drop-drop}
 use borrow.Author.Tests.{lt-ltb, le-ltb, le-leb, lt-leb, ltb-true, leb-true, ne_eqb}
 use Rattle.lists.specs.Tests.{and_left, and_right}
 use Rattle.lists.specs.All.{all, all_at}
-use Rattle.lists.specs.Fields.{part, part_length, part_take}
+use Rattle.lists.specs.Fields.{part, part_take}
 use Rattle.lists.specs.Select.{select, select_both, all_drop}
 use Rattle.lists.specs.Tabulate.{each, each_of}
 use Rattle.days.specs.Days.{open_after, last_open}
@@ -212,10 +212,6 @@ close_turns calendar tables day balances = refl
 pub close_few : (calendar tables : List ℕ) (day : ℕ) (balances : List ℕ) → length (close_claims calendar tables day balances) ≤ 8192 * 16
 close_few calendar tables day balances =
     rw (close_turns calendar tables day balances) (each_few _ 8192 16 (λ s. let f = security_few calendar tables day s balances in omega arith))
-
-pub security_length : (tables : List ℕ) (s : ℕ) → length tables ≡ 1824 → s < 16 → length (security_of tables s) ≡ 114
-unfolding security_of
-security_length tables s e h = part_length (114 * s) 114 tables (omega arith)
 
 -- ---- a crossed row of sound tables has its factors in range
 
