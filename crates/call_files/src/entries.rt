@@ -8,257 +8,225 @@
 // An entry of what they give: the number in two bytes; day, count and claims in four each; balances; the claim buffer, the balances that a
 // carry over is to write, or the store. Of a forecast: the number in two bytes, and the three doubles in eight each.
 // Balances: how many words in four bytes, how many of them are not zero in four, and for each of these its place and its par.
-use crate::{
-    Lists, byte_at, half_at, is_carry_over, is_forecast, is_mark, lists_at, past_pairs, past_words,
-    plus, word_at,
-};
+use crate::{Call, MarkCall, Numbers, byte_at, bytes_at, half_at, pairs_at, part, word_at};
+use book::Book;
 
-// A call: where its parts stand and how long they are. `words` is a second run of words behind the balances: those that a carry over is to
-// write, or a store. Of a forecast the message is the run of claim records, and the day the release date. A part that a call is not lent is
-// empty, at the end of the file; mark and account are 0 then.
+// Bytes behind their length in a file.
 #[derive(Clone, Copy)]
-pub struct Entry {
-    pub kind: u8,
-    pub calendar: usize,
-    pub calendar_words: usize,
-    pub tables: usize,
-    pub table_words: usize,
-    pub balances: usize,
-    pub balance_words: usize,
-    pub day: u32,
-    pub count: u32,
-    pub message: usize,
-    pub message_length: usize,
-    pub buffer: usize,
-    pub buffer_length: usize,
-    pub words: usize,
-    pub word_count: usize,
-    pub mark: u32,
-    pub account: u32,
-    pub lists: Lists,
+pub struct Bytes {
+    pub at: usize,
+    pub length: usize,
 }
 
-// What a call should give, with the parts as in its entry. `figures` is where the doubles of a forecast stand, the end of the file for any
-// other call.
+impl Bytes {
+    // The bytes behind their length.
+    pub fn at(s: &[u8], at: usize) -> Bytes {
+        Bytes {
+            at: at.saturating_add(4),
+            length: word_at(s, at) as usize,
+        }
+    }
+
+    // The place behind the bytes.
+    pub fn next(self) -> usize {
+        self.at.saturating_add(self.length)
+    }
+
+    // The bytes, fewer where the file ends first.
+    pub fn of(self, s: &[u8]) -> &[u8] {
+        part(s, self.at, self.length)
+    }
+
+    // The bytes, in a buffer, as far as they fit it.
+    pub fn read<'a>(self, s: &[u8], buffer: &'a mut [u8]) -> &'a mut [u8] {
+        let n = buffer.len().min(self.length);
+        bytes_at(s, self.at, &mut buffer[..n]);
+        &mut buffer[..n]
+    }
+}
+
+// Balances at a place of a file.
+#[derive(Clone, Copy)]
+pub struct Balances(pub usize);
+
+impl Balances {
+    // How many words they are.
+    pub fn count(self, s: &[u8]) -> usize {
+        word_at(s, self.0) as usize
+    }
+
+    // The place behind the balances.
+    pub fn next(self, s: &[u8]) -> usize {
+        let pairs = word_at(s, self.0.saturating_add(4));
+        self.0
+            .saturating_add(8)
+            .saturating_add(12 * (pairs as usize))
+    }
+
+    // Fills words with the balances.
+    fn fill(self, s: &[u8], words: &mut [u64]) {
+        words.fill(0);
+        pairs_at(
+            s,
+            self.0.saturating_add(8),
+            word_at(s, self.0.saturating_add(4)),
+            words,
+        );
+    }
+
+    // The balances, in a buffer, as far as they fit it.
+    pub fn read<'a>(self, s: &[u8], buffer: &'a mut [u64]) -> &'a mut [u64] {
+        let n = buffer.len().min(self.count(s));
+        self.fill(s, &mut buffer[..n]);
+        &mut buffer[..n]
+    }
+}
+
+// A call on words, in place of tables and a message.
+#[derive(Clone, Copy)]
+pub enum WordsCall {
+    // The words are the balances that the call is to write.
+    CarryOver,
+    // The words are a store; the number is the mark.
+    Mark(MarkCall, u32),
+}
+
+// The arguments of a call that is lent tables.
+#[derive(Clone, Copy)]
+pub struct ClaimsEntry<'a> {
+    pub call: Call,
+    pub calendar: Numbers,
+    pub tables: Numbers,
+    pub balances: Balances,
+    pub book: Book,
+    pub message: &'a [u8],
+    pub buffer: Bytes,
+}
+
+// The arguments of a call on words.
+#[derive(Clone, Copy)]
+pub struct WordsEntry {
+    pub call: WordsCall,
+    pub calendar: Numbers,
+    pub balances: Balances,
+    pub book: Book,
+    pub words: Balances,
+}
+
+// The arguments of a forecast: an account, a release date and a run of claim records.
+#[derive(Clone, Copy)]
+pub struct ForecastEntry<'a> {
+    pub account: u32,
+    pub date: u32,
+    pub run: &'a [u8],
+}
+
+// A call with its arguments, or where these stand.
+#[derive(Clone, Copy)]
+pub enum Entry<'a> {
+    Claims(ClaimsEntry<'a>),
+    Words(WordsEntry),
+    Forecast(ForecastEntry<'a>),
+}
+
+// The book at a place.
+pub(crate) fn book_at(s: &[u8], at: usize) -> Book {
+    Book {
+        day: word_at(s, at),
+        count: word_at(s, at.saturating_add(4)),
+    }
+}
+
+// The call with a number on words whose calendar stands at a place, and the place behind it.
+fn words_entry_at(number: u8, s: &[u8], at: usize) -> (Entry<'_>, usize) {
+    let calendar = Numbers::at(s, at);
+    let balances = Balances(calendar.next());
+    let book = balances.next(s);
+    let words = Balances(book.saturating_add(8));
+    let next = words.next(s);
+    let mark = word_at(s, next);
+    let (call, next) = match number {
+        5 => (WordsCall::Mark(MarkCall::Set, mark), next.saturating_add(4)),
+        6 => (
+            WordsCall::Mark(MarkCall::Return, mark),
+            next.saturating_add(4),
+        ),
+        _ => (WordsCall::CarryOver, next),
+    };
+    let entry = WordsEntry {
+        call,
+        calendar,
+        balances,
+        book: book_at(s, book),
+        words,
+    };
+    (Entry::Words(entry), next)
+}
+
+// The call with a number that is lent tables whose calendar stands at a place, and the place behind it.
+fn claims_entry_at(number: u8, s: &[u8], at: usize) -> (Entry<'_>, usize) {
+    let calendar = Numbers::at(s, at);
+    let tables = Numbers::at(s, calendar.next());
+    let balances = Balances(tables.next());
+    let book = balances.next(s);
+    let message = Bytes::at(s, book.saturating_add(8));
+    let buffer = Bytes::at(s, message.next());
+    let (call, next) = Call::at(number, s, buffer.next());
+    let entry = ClaimsEntry {
+        call,
+        calendar,
+        tables,
+        balances,
+        book: book_at(s, book),
+        message: message.of(s),
+        buffer,
+    };
+    (Entry::Claims(entry), next)
+}
+
+// The forecast whose account stands at a place, and the place behind it.
+fn forecast_at(s: &[u8], at: usize) -> (Entry<'_>, usize) {
+    let run = Bytes::at(s, at.saturating_add(8));
+    let entry = ForecastEntry {
+        account: word_at(s, at),
+        date: word_at(s, at.saturating_add(4)),
+        run: run.of(s),
+    };
+    (Entry::Forecast(entry), run.next())
+}
+
+// The call at a place, and the place behind it.
+pub fn entry_at(s: &[u8], at: usize) -> (Entry<'_>, usize) {
+    let arguments = at.saturating_add(1);
+    match byte_at(s, at) {
+        number @ 4..=6 => words_entry_at(number, s, arguments),
+        7 => forecast_at(s, arguments),
+        number => claims_entry_at(number, s, arguments),
+    }
+}
+
+// What a call should answer, and where what it should leave stands.
 #[derive(Clone, Copy)]
 pub struct Expected {
     pub number: u16,
-    pub day: u32,
-    pub count: u32,
-    pub claims: u32,
-    pub balances: usize,
-    pub balance_words: usize,
-    pub buffer: usize,
-    pub buffer_length: usize,
-    pub words: usize,
-    pub word_count: usize,
-    pub figures: usize,
-    pub next: usize,
+    pub book: Book,
+    pub claims: usize,
+    pub balances: Balances,
 }
 
-// The place behind balances.
-fn past_balances(s: &[u8], at: usize) -> usize {
-    past_pairs(plus(at, 8), word_at(s, plus(at, 4)))
-}
-
-// The place behind bytes with their length before them.
-fn past_bytes(s: &[u8], at: usize) -> usize {
-    plus(plus(at, 4), word_at(s, at) as usize)
-}
-
-// Whether calls of a kind are lent a second run of words in place of tables.
-fn has_words(kind: u8) -> bool {
-    if is_carry_over(kind) {
-        return true;
+impl Expected {
+    // What a call at a place should answer.
+    pub fn at(s: &[u8], at: usize) -> Expected {
+        Expected {
+            number: half_at(s, at),
+            book: book_at(s, at.saturating_add(2)),
+            claims: word_at(s, at.saturating_add(10)) as usize,
+            balances: Balances(at.saturating_add(14)),
+        }
     }
-    is_mark(kind)
-}
 
-// The mark of a call of a kind at a place.
-fn mark_at(kind: u8, s: &[u8], at: usize) -> u32 {
-    if is_mark(kind) {
-        return word_at(s, at);
+    // The place behind it: that of the claim buffer or of the words.
+    pub fn next(self, s: &[u8]) -> usize {
+        self.balances.next(s)
     }
-    0
-}
-
-// The place behind the mark of a call of a kind.
-fn past_mark(kind: u8, at: usize) -> usize {
-    if is_mark(kind) {
-        return plus(at, 4);
-    }
-    at
-}
-
-// The call with a second run of words at a place.
-fn words_call_at(s: &[u8], at: usize) -> Entry {
-    let calendar = plus(at, 1);
-    let balances = past_words(plus(calendar, 4), word_at(s, calendar));
-    let book = past_balances(s, balances);
-    let words = plus(book, 8);
-    let mark = past_balances(s, words);
-    let kind = byte_at(s, at);
-    Entry {
-        kind,
-        calendar: plus(calendar, 4),
-        calendar_words: word_at(s, calendar) as usize,
-        tables: s.len(),
-        table_words: 0,
-        balances,
-        balance_words: word_at(s, balances) as usize,
-        day: word_at(s, book),
-        count: word_at(s, plus(book, 4)),
-        message: s.len(),
-        message_length: 0,
-        buffer: s.len(),
-        buffer_length: 0,
-        words,
-        word_count: word_at(s, words) as usize,
-        mark: mark_at(kind, s, mark),
-        account: 0,
-        lists: lists_at(kind, s, past_mark(kind, mark)),
-    }
-}
-
-// The call with tables at a place.
-fn call_at(s: &[u8], at: usize) -> Entry {
-    let calendar = plus(at, 1);
-    let tables = past_words(plus(calendar, 4), word_at(s, calendar));
-    let balances = past_words(plus(tables, 4), word_at(s, tables));
-    let book = past_balances(s, balances);
-    let message = plus(book, 8);
-    let buffer = past_bytes(s, message);
-    let kind = byte_at(s, at);
-    Entry {
-        kind,
-        calendar: plus(calendar, 4),
-        calendar_words: word_at(s, calendar) as usize,
-        tables: plus(tables, 4),
-        table_words: word_at(s, tables) as usize,
-        balances,
-        balance_words: word_at(s, balances) as usize,
-        day: word_at(s, book),
-        count: word_at(s, plus(book, 4)),
-        message: plus(message, 4),
-        message_length: word_at(s, message) as usize,
-        buffer: plus(buffer, 4),
-        buffer_length: word_at(s, buffer) as usize,
-        words: s.len(),
-        word_count: 0,
-        mark: 0,
-        account: 0,
-        lists: lists_at(kind, s, past_bytes(s, buffer)),
-    }
-}
-
-// The forecast at a place.
-fn forecast_at(s: &[u8], at: usize) -> Entry {
-    let run = plus(at, 9);
-    let kind = byte_at(s, at);
-    Entry {
-        kind,
-        calendar: s.len(),
-        calendar_words: 0,
-        tables: s.len(),
-        table_words: 0,
-        balances: s.len(),
-        balance_words: 0,
-        day: word_at(s, plus(at, 5)),
-        count: 0,
-        message: plus(run, 4),
-        message_length: word_at(s, run) as usize,
-        buffer: s.len(),
-        buffer_length: 0,
-        words: s.len(),
-        word_count: 0,
-        mark: 0,
-        account: word_at(s, plus(at, 1)),
-        lists: lists_at(kind, s, past_bytes(s, run)),
-    }
-}
-
-// The call at a place.
-pub fn entry_at(s: &[u8], at: usize) -> Entry {
-    if is_forecast(byte_at(s, at)) {
-        return forecast_at(s, at);
-    }
-    if has_words(byte_at(s, at)) {
-        return words_call_at(s, at);
-    }
-    call_at(s, at)
-}
-
-// What the call with a second run of words at a place should give.
-fn expected_words_at(s: &[u8], at: usize) -> Expected {
-    let balances = plus(at, 14);
-    let words = past_balances(s, balances);
-    Expected {
-        number: half_at(s, at),
-        day: word_at(s, plus(at, 2)),
-        count: word_at(s, plus(at, 6)),
-        claims: word_at(s, plus(at, 10)),
-        balances,
-        balance_words: word_at(s, balances) as usize,
-        buffer: s.len(),
-        buffer_length: 0,
-        words,
-        word_count: word_at(s, words) as usize,
-        figures: s.len(),
-        next: past_balances(s, words),
-    }
-}
-
-// What the call with tables at a place should give.
-fn expected_claims_at(s: &[u8], at: usize) -> Expected {
-    let balances = plus(at, 14);
-    let buffer = past_balances(s, balances);
-    Expected {
-        number: half_at(s, at),
-        day: word_at(s, plus(at, 2)),
-        count: word_at(s, plus(at, 6)),
-        claims: word_at(s, plus(at, 10)),
-        balances,
-        balance_words: word_at(s, balances) as usize,
-        buffer: plus(buffer, 4),
-        buffer_length: word_at(s, buffer) as usize,
-        words: s.len(),
-        word_count: 0,
-        figures: s.len(),
-        next: past_bytes(s, buffer),
-    }
-}
-
-// What the forecast at a place should give.
-fn expected_figures_at(s: &[u8], at: usize) -> Expected {
-    Expected {
-        number: half_at(s, at),
-        day: 0,
-        count: 0,
-        claims: 0,
-        balances: s.len(),
-        balance_words: 0,
-        buffer: s.len(),
-        buffer_length: 0,
-        words: s.len(),
-        word_count: 0,
-        figures: plus(at, 2),
-        next: plus(at, 26),
-    }
-}
-
-// What the call of a kind should give, at a place.
-pub fn expected_at(kind: u8, s: &[u8], at: usize) -> Expected {
-    if is_forecast(kind) {
-        return expected_figures_at(s, at);
-    }
-    if has_words(kind) {
-        return expected_words_at(s, at);
-    }
-    expected_claims_at(s, at)
-}
-
-// Fills balances with those at a place; at the end of a file all are zeros.
-pub fn balances_at(s: &[u8], at: usize, balances: &mut [u64]) {
-    book::clear(balances);
-    crate::pairs_at(s, plus(at, 8), word_at(s, plus(at, 4)), balances);
 }

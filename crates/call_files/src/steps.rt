@@ -8,202 +8,139 @@
 // the calendar, balances and words of the store it is lent), 128 sets calendar and tables (message: their words), 129 sets the book
 // (message: day, count, how many balances are not zero, and for each of these its place in four bytes and its par in eight), 130 writes words
 // of the store (message: how many, and for each of these its place in four bytes and its value in eight).
-use crate::entries::balances_at;
-use crate::{
-    Lists, byte_at, call, fill, fitting_balances, fitting_words, is_carry_over, is_mark, lists_at,
-    mark_call, pairs_at, part, plus, word_at, words_at,
-};
+ghost use Rattle.std.specs.Prelude.{◌<◌, ◌^◌};
+
+use crate::entries::{Balances, book_at};
+use crate::{Call, MarkCall, byte_at, fill, pairs_at, part, read_file, word_at, words_at};
 use book::{Book, Done};
+use std::rt::Files;
 
-// Where the parts of a step stand.
+// What a step does.
 #[derive(Clone, Copy)]
-pub struct Step {
-    pub kind: u8,
-    pub name: usize,
-    pub name_length: usize,
-    pub message: usize,
-    pub message_length: usize,
-    pub room: usize,
-    pub lists: Lists,
+enum Task {
+    Call(Call),
+    CarryOver,
+    Mark(MarkCall),
+    SetTables,
+    SetBook,
+    SetStore,
 }
 
-// The first kind that is no call: it sets calendar and tables.
-const SET_TABLES: u8 = 128;
+// A step: what it does, its name, its message, and the length of its claim buffer.
+#[derive(Clone, Copy)]
+struct Step<'a> {
+    task: Task,
+    name: &'a [u8],
+    message: &'a [u8],
+    room: usize,
+}
 
-// The kind that writes words of the store.
-const SET_STORE: u8 = 130;
-
-// The step at a place.
-pub fn step_at(s: &[u8], at: usize) -> Step {
-    let name = plus(at, 2);
-    let name_length = byte_at(s, plus(at, 1)) as usize;
-    let length = plus(name, name_length);
-    let message = plus(length, 4);
-    let message_length = word_at(s, length) as usize;
-    let room = plus(message, message_length);
-    let kind = byte_at(s, at);
-    Step {
-        kind,
-        name,
-        name_length,
-        message,
-        message_length,
-        room: word_at(s, room) as usize,
-        lists: lists_at(kind, s, plus(room, 4)),
+impl Task {
+    // The task with a number, and the place behind the lists of a call, which stand at a place.
+    fn at(number: u8, s: &[u8], at: usize) -> (Task, usize) {
+        match number {
+            4 => (Task::CarryOver, at),
+            5 => (Task::Mark(MarkCall::Set), at),
+            6 => (Task::Mark(MarkCall::Return), at),
+            128 => (Task::SetTables, at),
+            130 => (Task::SetStore, at),
+            129..=255 => (Task::SetBook, at),
+            _ => {
+                let (call, next) = Call::at(number, s, at);
+                (Task::Call(call), next)
+            }
+        }
     }
 }
 
-// Whether a step is a call.
-pub fn is_call(step: Step) -> bool {
-    step.kind < SET_TABLES
-}
-
-// Whether a step sets a mark or returns to one.
-pub fn has_mark(step: Step) -> bool {
-    is_mark(step.kind)
-}
-
-// Whether a step writes words of the store.
-pub fn is_store(step: Step) -> bool {
-    step.kind == SET_STORE
-}
-
-// The name of a step.
-pub fn name(s: &[u8], step: Step) -> &[u8] {
-    part(s, step.name, step.name_length)
-}
-
-// Sets the calendar and the tables from a message.
-fn set_tables(message: &[u8], calendar: &mut [u32; 480], tables: &mut [u32; 1824]) {
-    words_at(message, 0, calendar);
-    words_at(message, 1920, tables);
-}
-
-// The book that a message begins with.
-fn book_in(message: &[u8]) -> Book {
-    Book {
-        day: word_at(message, 0),
-        count: word_at(message, 4),
-    }
-}
-
-// Sets the balances from a message and answers the book.
-fn set_book(message: &[u8], balances: &mut [u64; 8192]) -> Book {
-    book::clear(balances);
-    pairs_at(message, 12, word_at(message, 8), balances);
-    book_in(message)
-}
-
-// Takes a step that writes words of the store.
-pub fn set_store(s: &[u8], step: Step, store: &mut [u64]) {
-    let message = part(s, step.message, step.message_length);
-    pairs_at(message, 4, word_at(message, 0), store);
-}
-
-// Takes a step that sets calendar and tables or the book, and answers the book after it.
-pub fn set(
-    s: &[u8],
-    step: Step,
-    calendar: &mut [u32; 480],
-    tables: &mut [u32; 1824],
-    book: Book,
-    balances: &mut [u64; 8192],
-) -> Book {
-    let message = part(s, step.message, step.message_length);
-    if step.kind == SET_TABLES {
-        set_tables(message, calendar, tables);
-        return book;
-    }
-    set_book(message, balances)
-}
-
-// The book that a call is given: an opening's day stands in its message.
-fn given(kind: u8, message: &[u8], book: Book) -> Book {
-    if kind == 0 {
-        return Book {
-            day: word_at(message, 0),
-            count: 0,
+impl Step<'_> {
+    // The step at a place, and the place behind it.
+    fn at(s: &[u8], at: usize) -> (Step<'_>, usize) {
+        let name = at.saturating_add(2);
+        let name_length = byte_at(s, at.saturating_add(1)) as usize;
+        let length = name.saturating_add(name_length);
+        let message = length.saturating_add(4);
+        let message_length = word_at(s, length) as usize;
+        let room = message.saturating_add(message_length);
+        let (task, next) = Task::at(byte_at(s, at), s, room.saturating_add(4));
+        let step = Step {
+            task,
+            name: part(s, name, name_length),
+            message: part(s, message, message_length),
+            room: word_at(s, room) as usize,
         };
+        (step, next)
     }
-    book
+}
+
+// What a program writes of the calls of its file.
+pub trait Lines {
+    // Whether a step of kind 130 writes words of the store; else it sets the book, as all kinds from 129 on do.
+    const SETS_STORE: bool;
+
+    // Writes a call without a mark: its name, what it answers, its claim buffer and the balances that it leaves.
+    fn call(&self, rt: &impl Print, name: &[u8], done: Done, claims: &[u8], balances: &[u64]);
+
+    // Writes a call that sets a mark or returns to one: its name, what it answers, and the balances and the store that it leaves.
+    fn mark(&self, rt: &impl Print, name: &[u8], done: Done, balances: &[u64], store: &[u64]);
+}
+
+// What the steps of a run work on: each on what the last one left. The store has one word behind its marks.
+#[derive(Drop)]
+struct World {
+    calendar: [u32; 480],
+    tables: [u32; 1824],
+    book: Book,
+    balances: [u64; 8192],
+    store: [u64; 32781],
 }
 
 // Changes each word by a stamp, its place and one more. Done twice, it leaves them as they were.
 fn stamp(words: &mut [u64]) {
-    let mut i: usize = 0;
-    while i < words.len() {
-        words[i] = words[i] ^ ((i as u64) + 1);
-        i += 1;
+    for (i, word) in words.iter_mut().enumerate() {
+        *word ^= i as u64 + 1;
     }
-}
-
-// Takes the stamps from balances that a refused carry over was lent: the words that are not zero then are those that it changed.
-fn unstamp(number: u16, balances: &mut [u64]) {
-    if number != 0 {
-        stamp(balances);
-    }
-}
-
-// Fills saved balances with those of a message and carries them over.
-fn carry_saved(
-    message: &[u8],
-    calendar: &[u32],
-    book: Book,
-    saved: &mut [u64],
-    balances: &mut [u64],
-) -> Done {
-    balances_at(message, 16, saved);
-    carry_over::carry_over(calendar, book, saved, balances)
 }
 
 // Carries the book of a message over, lent the parts of the buffers that it names.
 fn carry_parts(message: &[u8], calendar: &[u32], saved: &mut [u64], balances: &mut [u64]) -> Done {
-    let c = fitting_words(word_at(message, 8) as usize, calendar);
-    let b = fitting_balances(word_at(message, 12) as usize, balances);
-    let n = fitting_balances(word_at(message, 16) as usize, saved);
-    carry_saved(
-        message,
+    let c = calendar.len().min(word_at(message, 8) as usize);
+    let b = balances.len().min(word_at(message, 12) as usize);
+    let saved = Balances(16).read(message, saved);
+    carry_over::carry_over(
         &calendar[..c],
-        book_in(message),
-        &mut saved[..n],
+        book_at(message, 0),
+        saved,
         &mut balances[..b],
     )
 }
 
-// The same with a whole buffer. The array is handed on by reference first, so that its elements stay out of the proofs.
-fn carry_whole(
-    message: &[u8],
-    calendar: &[u32],
-    saved: &mut [u64; 8192],
-    balances: &mut [u64],
-) -> Done {
-    carry_parts(message, calendar, saved, balances)
-}
-
-// Carries the book of a message over to balances that hold stamps; refused, they are what differs from the stamps.
+// Carries the book of a message over to balances that hold stamps; refused, they are what differs from the stamps: the words that are not
+// zero then are those that it changed.
 fn carry(message: &[u8], calendar: &[u32], balances: &mut [u64]) -> Done {
     let mut saved = [0u64; 8192];
-    book::clear(balances);
+    balances.fill(0);
     stamp(balances);
-    let done = carry_whole(message, calendar, &mut saved, balances);
-    unstamp(done.number, balances);
+    let done = carry_parts(message, calendar, &mut saved, balances);
+    if done.number != 0 {
+        stamp(balances);
+    }
     done
 }
 
 // Sets the mark of a message or returns to it, lent the parts of the buffers that it names.
-fn make_lent_mark(
-    kind: u8,
+fn make_mark(
+    call: MarkCall,
     message: &[u8],
     calendar: &[u32],
     book: Book,
     balances: &mut [u64],
     store: &mut [u64],
 ) -> Done {
-    let c = fitting_words(word_at(message, 4) as usize, calendar);
-    let b = fitting_balances(word_at(message, 8) as usize, balances);
-    let n = fitting_balances(word_at(message, 12) as usize, store);
-    mark_call(
-        kind,
+    let c = calendar.len().min(word_at(message, 4) as usize);
+    let b = balances.len().min(word_at(message, 8) as usize);
+    let n = store.len().min(word_at(message, 12) as usize);
+    call.make(
         &calendar[..c],
         book,
         &mut balances[..b],
@@ -212,46 +149,133 @@ fn make_lent_mark(
     )
 }
 
-// Sets the mark of a step or returns to it.
-pub fn make_mark(
-    s: &[u8],
-    step: Step,
-    calendar: &[u32],
-    book: Book,
-    balances: &mut [u64],
-    store: &mut [u64],
-) -> Done {
-    let message = part(s, step.message, step.message_length);
-    make_lent_mark(step.kind, message, calendar, book, balances, store)
-}
-
-// Makes the call of a step without a mark. Before it the claim buffer holds the remainders of its places by 251.
-pub fn make(
-    s: &[u8],
-    step: Step,
-    calendar: &[u32],
-    tables: &[u32],
-    book: Book,
-    balances: &mut [u64],
-    claims: &mut [u8],
-) -> Done {
-    fill(claims);
-    let message = part(s, step.message, step.message_length);
-    if is_carry_over(step.kind) {
-        return carry(message, calendar, balances);
+// The book that a call is given: an opening's day stands in its message.
+fn given(call: Call, message: &[u8], book: Book) -> Book {
+    match call {
+        Call::Open => Book {
+            day: word_at(message, 0),
+            count: 0,
+        },
+        _ => book,
     }
-    let book = given(step.kind, message, book);
-    call(
-        step.kind, s, step.lists, calendar, tables, book, balances, message, claims,
-    )
 }
 
 // The book after a call: a refused opening leaves the one that was there.
-pub fn book_after(kind: u8, book: Book, done: Done) -> Book {
-    if kind == 0 {
-        if done.number != 0 {
-            return book;
+fn book_after(call: Call, book: Book, done: Done) -> Book {
+    match call {
+        Call::Open if done.number != 0 => book,
+        _ => done.book,
+    }
+}
+
+impl World {
+    // Tables, balances and a store of zeros.
+    fn zeros() -> World {
+        World {
+            calendar: [0; 480],
+            tables: [0; 1824],
+            book: Book { day: 0, count: 0 },
+            balances: [0; 8192],
+            store: [0; 32781],
         }
     }
-    done.book
+
+    // Makes a call that is lent tables and a claim buffer.
+    fn make(&mut self, s: &[u8], call: Call, message: &[u8], claims: &mut [u8]) -> Done {
+        let done = call.make(
+            s,
+            &self.calendar,
+            &self.tables,
+            given(call, message, self.book),
+            &mut self.balances,
+            message,
+            claims,
+        );
+        self.book = book_after(call, self.book, done);
+        done
+    }
+
+    // Takes a step. Before a call that is no call on marks, the claim buffer holds the remainders of its places by 251.
+    fn take<L: Lines>(
+        &mut self,
+        rt: &impl Print,
+        lines: &L,
+        s: &[u8],
+        step: Step,
+        claims: &mut [u8],
+    ) {
+        let Step {
+            task,
+            name,
+            message,
+            room,
+        } = step;
+        let n = claims.len().min(room);
+        let claims = &mut claims[..n];
+        match task {
+            Task::Call(call) => {
+                fill(claims);
+                let done = self.make(s, call, message, claims);
+                lines.call(rt, name, done, claims, &self.balances);
+            }
+            Task::CarryOver => {
+                fill(claims);
+                let done = carry(message, &self.calendar, &mut self.balances);
+                self.book = done.book;
+                lines.call(rt, name, done, claims, &self.balances);
+            }
+            Task::Mark(call) => {
+                let done = make_mark(
+                    call,
+                    message,
+                    &self.calendar,
+                    self.book,
+                    &mut self.balances,
+                    &mut self.store,
+                );
+                self.book = done.book;
+                lines.mark(rt, name, done, &self.balances, &self.store);
+            }
+            Task::SetTables => {
+                words_at(message, 0, &mut self.calendar);
+                words_at(message, 1920, &mut self.tables);
+            }
+            Task::SetStore if L::SETS_STORE => pairs_at(
+                message,
+                4,
+                word_at(message, 0),
+                &mut self.store,
+            ),
+            Task::SetStore | Task::SetBook => {
+                self.book = book_at(message, 0);
+                self.balances.fill(0);
+                pairs_at(message, 12, word_at(message, 8), &mut self.balances);
+            }
+        }
+    }
+}
+
+// Takes the steps of a file one after another, with a claim buffer.
+fn take_all(rt: &impl Print, lines: &impl Lines, s: &[u8], claims: &mut [u8]) {
+    let mut world = World::zeros();
+    let mut at: usize = 4;
+    for _ in 0..word_at(s, 0) {
+        let (step, next) = Step::at(s, at);
+        world.take(rt, lines, s, step, claims);
+        at = next;
+    }
+}
+
+// Reads a file of up to FILE bytes and takes its steps, with a claim buffer of CLAIMS bytes.
+pub fn run<const FILE: usize, const CLAIMS: usize>(
+    rt: &(impl Files + Print + Eprint + Alloc),
+    lines: &impl Lines,
+    path: &str,
+)
+    requires file { FILE < 2 ^ 63 }
+    requires claims { CLAIMS < 2 ^ 63 }
+{
+    let mut file = [0u8; FILE];
+    let mut claims = [0u8; CLAIMS];
+    take_all(rt, lines, read_file(rt, path, &mut file), &mut claims);
 }

@@ -3,7 +3,8 @@
 // is the loop around them: write, read, step.
 #![tactic(auto)]
 
-ghost use Rattle.std.specs.Prelude.{◌≡◌, false, ◌≤◌, length};
+ghost use Rattle.std.specs.Prelude.{◌≡◌, false, ◌≤◌, length, IfSome};
+ghost use Rattle.std.specs.Result.{result_ok};
 ghost use Rattle.std.specs.Io.{ReadsAtMost, WritesAtMost};
 ghost use Rattle.program.specs.Steps.{begins, holding};
 ghost use Rattle.program.specs.Statement.{Ran, RanBook};
@@ -17,10 +18,6 @@ use std::{fs, io};
 
 const BOOK_FILE: &str = "book.dat";
 
-const HELP_WORD: [u8; 6] = *b"--help";
-
-const VERSION_WORD: [u8; 9] = *b"--version";
-
 const VERSION: [u8; 15] = *b"claimrun 2.3.0\n";
 
 const ARGUMENTS: &str = "claimrun: takes no arguments other than --help or --version\n";
@@ -29,7 +26,7 @@ const HELP: [u8; 333] =
     *b"claimrun reads book.dat (calendar, tables, opening day: 9,220 bytes) in the folder\nwhere it is started, then message records from standard input. For each record it\nwrites its claims and its answer to standard output. A book.dat that is missing or\nwrong gets one answer; an answer 5 ends the run. --version shows the version number.\n";
 
 // Whether a call that failed is to be tried again: at once after a signal, and after a pause where the descriptor is not ready.
-fn is_passing(rt: &impl Clock, error: io::Error) -> bool {
+fn is_passing(rt: &impl Clock, error: &io::Error) -> bool {
     match error.kind() {
         ErrorKind::Interrupted => true,
         ErrorKind::WouldBlock => {
@@ -40,132 +37,101 @@ fn is_passing(rt: &impl Clock, error: io::Error) -> bool {
     }
 }
 
-// One read; one that fails in passing is tried again. The tries count down from a number that no run uses up.
+// One read; one that fails in passing is tried again. The tries are counted, to a number that no run uses up.
 fn read_some(rt: &impl Clock, from: &mut impl Read, buf: &mut [u8]) -> io::Result<usize>
     ensures { ReadsAtMost result buf.new }
 {
-    let mut turns = u64::MAX;
-    while turns > 0 {
+    for _ in 0..u64::MAX {
         match from.read(buf) {
-            Ok(n) => return Ok(n),
-            Err(error) => {
-                if !is_passing(rt, error) {
-                    return Err(error);
-                }
-            }
+            Err(error) if is_passing(rt, &error) => {}
+            outcome => return outcome,
         }
-        turns -= 1;
     }
     Err(io::Error::from(ErrorKind::WouldBlock))
 }
 
-// One write, likewise.
+// One write, likewise. It is a loop of its own, since a caller would not know how many bytes a closure has read into a buffer.
 fn write_some(rt: &(impl Print + Clock), buf: &[u8]) -> io::Result<usize>
     ensures { WritesAtMost result buf.now }
 {
-    let mut turns = u64::MAX;
-    while turns > 0 {
+    for _ in 0..u64::MAX {
         match rt.write_some(buf) {
-            Ok(n) => return Ok(n),
-            Err(error) => {
-                if !is_passing(rt, error) {
-                    return Err(error);
-                }
-            }
+            Err(error) if is_passing(rt, &error) => {}
+            outcome => return outcome,
         }
-        turns -= 1;
     }
     Err(io::Error::from(ErrorKind::WouldBlock))
 }
 
-// Writes all bytes to standard output, or says on standard error that it cannot.
-fn write_out(rt: &(impl Print + Eprint + Clock + Alloc), buf: &[u8]) -> bool {
-    let mut at: usize = 0;
-    while at < buf.len() {
-        match write_some(rt, &buf[at..]) {
-            Ok(0) => {
-                failures::tell(
-                    rt,
-                    "claimrun: standard output",
-                    io::Error::from(ErrorKind::WriteZero),
-                );
-                return false;
-            }
-            Ok(n) => at += n,
-            Err(error) => {
-                failures::tell(rt, "claimrun: standard output", error);
-                return false;
-            }
+// What a read or a write gives; one that failed for good is said on standard error.
+fn told<T>(rt: &(impl Eprint + Alloc), what: &str, outcome: io::Result<T>) -> Option<T>
+    ensures { result ≡ result_ok outcome }
+{
+    match outcome {
+        Ok(given) => Some(given),
+        Err(error) => {
+            failures::tell(rt, what, error);
+            None
         }
     }
-    true
 }
 
-// What a read of standard input gives: how many bytes, and whether it failed for good.
-#[derive(Drop)]
-struct Got {
-    bytes: usize,
-    failed: bool,
+// Writes all bytes to standard output.
+fn write_all(rt: &(impl Print + Clock), buf: &[u8]) -> io::Result<()> {
+    let mut rest = buf;
+    while !rest.is_empty() {
+        match write_some(rt, rest)? {
+            0 => return Err(io::Error::from(ErrorKind::WriteZero)),
+            n => rest = &rest[n..],
+        }
+    }
+    Ok(())
 }
 
-// The bytes that standard input gives where they are asked for, none at its end and where none are asked for. A read that fails for good is
+// Writes all bytes to standard output, or says on standard error that it cannot.
+fn write_out(rt: &(impl Print + Eprint + Clock + Alloc), buf: &[u8]) -> Option<()> {
+    told(rt, "claimrun: standard output", write_all(rt, buf))
+}
+
+// How many bytes standard input gives where they are asked for, none at its end and where none are asked for. A read that fails for good is
 // said on standard error.
 fn read_in(
     rt: &(impl Eprint + Clock + Alloc),
     from: &mut impl Read,
     asks: bool,
     buf: &mut [u8],
-) -> Got
-    ensures { (result.bytes ≤ length buf.new) × (asks ≡ false → result.bytes ≡ 0) }
+) -> Option<usize>
+    ensures { IfSome result (λ n. (n ≤ length buf.new) × (asks ≡ false → n ≡ 0)) }
 {
-    if asks {
-        return match read_some(rt, from, buf) {
-            Ok(bytes) => Got {
-                bytes,
-                failed: false,
-            },
-            Err(error) => {
-                failures::tell(rt, "claimrun: standard input", error);
-                Got {
-                    bytes: 0,
-                    failed: true,
-                }
-            }
-        };
+    if !asks {
+        return Some(0);
     }
-    Got {
-        bytes: 0,
-        failed: false,
-    }
+    told(rt, "claimrun: standard input", read_some(rt, from, buf))
 }
 
-// Fills the buffer from a file, and answers how many bytes the file gave, 0 where a read fails.
-fn fill(rt: &impl Clock, file: &mut impl Read, buf: &mut [u8]) -> usize
-    ensures { result ≤ length buf.new }
+// Fills the buffer from a file, and answers how many bytes the file gave.
+fn fill(rt: &impl Clock, file: &mut impl Read, buf: &mut [u8]) -> io::Result<usize>
+    ensures { ReadsAtMost result buf.new }
 {
     let mut at: usize = 0;
     while at < buf.len() {
-        match read_some(rt, file, &mut buf[at..]) {
-            Ok(0) => return at,
-            Ok(n) => at += n,
-            Err(_) => return 0,
+        match read_some(rt, file, &mut buf[at..])? {
+            0 => break,
+            n => at += n,
         }
     }
-    at
+    Ok(at)
 }
 
-// The bytes of book.dat, and how many there are; 0 where it cannot be read.
-fn read_book(rt: &(impl Files + Clock), buf: &mut [u8]) -> usize
-    ensures { result ≤ length buf.new }
-{
-    match fs::open(rt, BOOK_FILE) {
-        Ok(mut file) => fill(rt, &mut file, buf),
-        Err(_) => 0,
-    }
+// The bytes of book.dat, as far as a buffer holds them.
+fn read_book<'a>(rt: &(impl Files + Clock), buf: &'a mut [u8]) -> io::Result<&'a [u8]> {
+    let mut file = fs::open(rt, BOOK_FILE)?;
+    let n = fill(rt, &mut file, buf)?;
+    Ok(&buf[..n])
 }
 
 // Writes what is to be written, reads where input is asked for, and takes a step, until the run is over; answers what it holds then, which is
-// what the steps left. The turns count down from a number that no run uses up.
+// what the steps left. The turns are counted, to a number that no run uses up.
 fn run(
     rt: &(impl Print + Eprint + Clock + Alloc),
     from: &mut impl Read,
@@ -181,22 +147,16 @@ fn run(
         (holding begun balances.old input.old output.old) result balances.new input.new }
 {
     let mut held = begun;
-    let mut turns = u64::MAX;
-    while turns > 0 {
+    for _ in 0..u64::MAX {
         let written = held.written;
-        if !write_out(rt, &output[0..written]) {
-            return held;
-        }
-        if held.over {
+        if write_out(rt, &output[..written]).is_none() || held.over {
             return held;
         }
         let left = held.left;
-        let got = read_in(rt, from, held.asks, &mut input[left..]);
-        if got.failed {
+        let Some(n) = read_in(rt, from, held.asks, &mut input[left..]) else {
             return held;
-        }
-        held = steps::step(calendar, tables, held, balances, input, got.bytes, output);
-        turns -= 1;
+        };
+        held = steps::step(calendar, tables, held, balances, input, n, output);
     }
     held
 }
@@ -206,13 +166,13 @@ fn serve_book(
     rt: &(impl Print + Eprint + Clock + Alloc),
     from: &mut impl Read,
     file: &[u8],
-    calendar: &mut [u32],
-    tables: &mut [u32],
+    calendar: &mut [u32; 480],
+    tables: &mut [u32; 1824],
     balances: &mut [u64],
     input: &mut [u8],
     output: &mut [u8],
 ) -> Held
-    requires { (length calendar.old ≡ 480) × (length tables.old ≡ 1824) × (6 ≤ length output.old) }
+    requires { 6 ≤ length output.old }
     ensures { RanBook (begins file.now calendar.old tables.old balances.old output.old)
         input.old result balances.new input.new }
 {
@@ -223,37 +183,31 @@ fn serve_book(
 // Whether there is an argument with a number.
 fn has_argument(rt: &impl Env, i: usize) -> bool {
     let mut word = [0u8; 1];
-    match rt.arg(i, &mut word) {
-        Err(FillError::NotPresent) => false,
-        _ => true,
-    }
+    !matches!(rt.arg(i, &mut word), Err(FillError::NotPresent))
 }
 
-// The length of the first argument in a buffer, 0 where it is longer.
-fn first_argument(rt: &impl Env, word: &mut [u8]) -> usize
-    ensures { result ≤ length word.new }
-{
+// The first argument, in a buffer; nothing where it is longer.
+fn first_argument<'a>(rt: &impl Env, word: &'a mut [u8]) -> &'a [u8] {
     match rt.arg(1, word) {
-        Ok(n) => n,
-        Err(_) => 0,
+        Ok(n) => &word[..n],
+        Err(_) => b"",
     }
 }
 
 // Answers --help and --version; any other arguments get a line on standard error.
 fn answer_arguments(rt: &(impl Env + Print + Eprint + Clock + Alloc)) {
     let mut word = [0u8; 16];
-    let n = first_argument(rt, &mut word);
-    if !has_argument(rt, 2) {
-        if check::same(&word[..n], &HELP_WORD) {
+    match first_argument(rt, &mut word) {
+        b"--help" if !has_argument(rt, 2) => {
             write_out(rt, &HELP);
-            return;
         }
-        if check::same(&word[..n], &VERSION_WORD) {
+        b"--version" if !has_argument(rt, 2) => {
             write_out(rt, &VERSION);
-            return;
+        }
+        _ => {
+            let _ = rt.eprint(ARGUMENTS);
         }
     }
-    let _ = rt.eprint(ARGUMENTS);
 }
 
 fn main(rt: HostRuntime) {
@@ -262,17 +216,18 @@ fn main(rt: HostRuntime) {
         return;
     }
     let mut file = [0u8; 9221];
-    let n = read_book(&rt, &mut file);
     let mut calendar = [0u32; 480];
     let mut tables = [0u32; 1824];
     let mut balances = [0u64; 8192];
     let mut input = [0u8; 65536];
     let mut output = [0u8; 262144];
     let mut from = rt.stdin();
+    // A book.dat that cannot be read is judged as an empty one.
+    let book = read_book(&rt, &mut file).unwrap_or(b"");
     serve_book(
         &rt,
         &mut from,
-        &file[0..n],
+        book,
         &mut calendar,
         &mut tables,
         &mut balances,

@@ -1,4 +1,4 @@
--- The searches over a security's rows, for the first that the day has not reached and for the first that waits, and what a claim on a row asks.
+-- The searches over a security's rows: for the first that the day has not reached, and for the first that waits.
 use mathlib.Core.Path.{◌≡◌, refl, sym, ◌∙◌, subst}
 use mathlib.Core.Bool.{true, false, cond}
 use mathlib.Core.List.{List, []}
@@ -9,12 +9,10 @@ use native.Mathlib.Omega.{arith}
 use lib.ListN.{drop, drop_of_length-le}
 use lib.Seq.{drop-cons}
 use Rattle.lists.specs.Select.{first_key}
-use Rattle.records.specs.declared.Transfer.{Transfer}
 use Rattle.securities.specs.Securities.{security_of, type_of, rows_of}
 use Rattle.std.proofs.Common.{Option, Some, None, MatchOption, unwrap_or}
-use Rattle.claims.specs.Fails.{is_mbs, transfer_parties}
-use Rattle.claims.specs.Claimable.{Claimable}
-use Rattle.claims.specs.Reached.{row_at, leading, is_reached, reached_from, reached_rows, interim_end, is_waiting, waiting_from, waiting_row, Claiming}
+use Rattle.claims.specs.Fails.{is_mbs}
+use Rattle.claims.specs.Reached.{row_at, leading, is_reached, reached_from, reached_rows, is_waiting, waiting_from, waiting_row}
 use Rattle.claims.proofs.TableRows.{rows_of_at, row_number, length_rows_of}
 
 -- ---- one row after the other
@@ -73,17 +71,6 @@ reach_found column tables s day first None h e =
 reach_found column tables s day first (Some i) h e =
     reach_stop (walked (Reaching column tables s day first) first i e.0 (reach_start column tables s day first h)
     (λ k f l p. reach_next p (omega arith) (e.3 k f l))) e.1 e.2
-
--- ---- the end of the interim rows
-
-module _ (tables : List ℕ) (s day : ℕ) {n : ℕ} (e : n ≡ reached_rows tables s day) where
-  pub end_other : is_mbs (type_of (security_of tables s)) ≡ false → n ≡ interim_end tables s day
-  unfolding interim_end
-  end_other q = rw q e
-
-  pub end_mbs : {m : ℕ} → is_mbs (type_of (security_of tables s)) ≡ true → m ≡ reached_from 0 tables s day n → m ≡ interim_end tables s day
-  unfolding interim_end
-  end_mbs q o = rw (q, ← e) o
 
 -- ---- the first row that waits
 
@@ -144,10 +131,3 @@ module _ (tables : List ℕ) (s contract day : ℕ) where
         → m ≡ waiting_row tables s contract day first
     unfolding waiting_row
     waiting_mbs q o = rw (q, ← e) o
-
--- ---- the claim on a row
-
-pub claimable : {tables : List ℕ} {t : Transfer} (i : ℕ) → Claiming tables t → i < 16 → t.par ≤ 9000000000
-    → Claimable (transfer_parties t) t.par (row_at tables t.security i)
-unfolding transfer_parties
-claimable i f k h = record { held = f.held; paying = f.paying; small = h; interest = f.interest i k; principal = f.principal i k }

@@ -19,13 +19,13 @@ use Rattle.records.specs.declared.Claim.{Claim}
 use Rattle.securities.specs.Securities.{row_at as table_row, row_of, rows_from, rows_of, security_of, is_empty, is_filled, filled_rows, good_row, good_tables}
 use Rattle.securities.specs.declared.Row.{Row}
 use Rattle.securities.proofs.Sound.{Good, good_row_lem, sound_rows}
-use Rattle.claims.specs.Amounts.{claim_on}
+use Rattle.claims.specs.Amounts.{lending_type, repo_type, claim_on}
 use Rattle.claims.specs.declared.Parties.{Parties}
 use Rattle.claims.specs.Close.{crosses, crossed, tracking_type, loan_claim, security_balances, lender_balances, tracking_claims, row_claims, close_claims}
 use Rattle.claims.specs.Passes.{each_few}
 use Rattle.claims.proofs.Runs.{each_select, each_agree}
 use Rattle.claims.proofs.TableRows.{row_part_lem}
-use Rattle.claims.specs.Turns.{small, Ready, Sound, lender_claims, turn_claims, security_claims}
+use Rattle.claims.specs.Turns.{small, Ready, SoundClose, Sound, lender_claims, turn_claims, security_claims}
 
 -- ---- one borrower
 
@@ -93,6 +93,17 @@ pub row_turn : (calendar tables : List ℕ) (day s : ℕ) (balances : List ℕ) 
     ≡ each 2 (λ k. tracking_claims calendar tables day (3 + k) s (part (4096 * k + 256 * s) 256 balances) row)
 unfolding row_claims tracking_type security_balances
 row_turn calendar tables day s balances row = refl
+
+-- the claims on the par on loan, then those on the par on repo
+pub row_both : (calendar tables : List ℕ) (day s : ℕ) (balances : List ℕ) (row : Row)
+    → row_claims calendar tables day s balances row
+    ≡ tracking_claims calendar tables day lending_type s (part (256 * s) 256 balances) row
+    ++ tracking_claims calendar tables day repo_type s (part (4096 + 256 * s) 256 balances) row
+unfolding each
+row_both calendar tables day s balances row =
+    let claims = tracking_claims calendar tables day in
+    row_turn calendar tables day s balances row
+    ∙ ap (λ (at : ℕ). claims lending_type s (part at 256 balances) row ++ claims repo_type s (part (4096 + 256 * s) 256 balances) row) (zero-add (256 * s))
 
 pub row_few : (calendar tables : List ℕ) (day s : ℕ) (balances : List ℕ) (row : Row) → length (row_claims calendar tables day s balances row) ≤ 256 * 2
 row_few calendar tables day s balances row =
@@ -271,6 +282,12 @@ pub security_rows : (calendar tables : List ℕ) (day next s : ℕ) (balances : 
 security_rows calendar tables day next s balances e =
     security_turns calendar tables day next s balances e
     ∙ each_agree _ _ 16 (λ i h. ap (turn_claims calendar tables day next s balances) (sym (place_lem tables s i h)))
+
+-- a row of the tables is sound where they are
+pub sound_row : {calendar tables : List ℕ} {day next s : ℕ} (i : ℕ) → SoundClose calendar tables day next → s < 16 → i < 16
+    → Sound calendar tables day next s (table_row tables s i)
+unfolding table_row row_of
+sound_row i close h k = record { close = close; known = h; numbered = k; here = refl }
 
 -- a row that is crossed is ready for its claims
 pub crossed_ready : (calendar tables : List ℕ) (day next s : ℕ) (row : Row) → Sound calendar tables day next s row

@@ -1,15 +1,19 @@
 -- The numbers 5, 9 and 10 of a close on a sound book, each by the facts that code has there, and what a pass over its claims asks.
-use mathlib.Core.Path.{◌≡◌, refl, ap}
-use mathlib.Core.Bool.{true, false, not}
+use mathlib.Core.Path.{◌≡◌, refl, sym, ap, ◌∙◌}
+use mathlib.Core.Bool.{Bool, true, false, cond, not, true≢false}
 use mathlib.Core.List.{List, [], ◌∷◌}
 use Prim.Native.Nat.{ℕ, suc, ◌*◌, ◌≤◌, ◌<◌}
 use lib.ListN.{length}
-use borrow.Author.Tests.{eq-eqb, ne_eqb, lt-ltb, le-ltb, not-false}
+use lib.Dec.{eqb}
+use Rattle.std.proofs.Common.{Option, Some, None}
+use Rattle.std.specs.Option.{is_some}
+use borrow.Author.Tests.{eqb-true, eq-eqb, ne_eqb, lt-ltb, le-ltb, not-false}
 use Rattle.lists.specs.Tests.{and_left, and_right, and_both, or_false_right}
 use Rattle.lists.specs.All.{all}
 use Rattle.lists.specs.First.{first_of, applies_at, hit, skip, none}
 use Rattle.lists.proofs.First.{cleared}
-use Rattle.days.specs.Days.{open_after}
+use Rattle.days.specs.Days.{is_date, open_at, open_after, as_day}
+use Rattle.days.specs.declared.Date.{Date}
 use Rattle.records.specs.MessageRecords.{close_kind, reads}
 use Rattle.claims.specs.Close.{close_claims}
 use Rattle.claims.specs.Turns.{small, SoundClose}
@@ -41,14 +45,39 @@ module _ (calendar tables : List ℕ) (book : Book) (balances : List ℕ) (a : A
   unfolding call_causes record_causes
   close_cut r = hit 5 _ (ap not r)
 
+-- ---- the two open days that follow
+
+-- where no open day follows, none follows the number 0 either
+pub no_later : (calendar : List ℕ) (day : ℕ) → open_after calendar day ≡ 0 → open_after calendar (open_after calendar day) ≡ 0
+unfolding open_after open_at is_date
+no_later calendar day z = rw z refl
+
+-- what a test of a search's answer says of the number
+module _ (n : ℕ) {r : Option Date} (e : r ≡ as_day n) where
+  pub none_found : {b : Bool} → is_some r ≡ not b → b ≡ true → n ≡ 0
+  unfolding as_day
+  none_found q t = go (eqb n 0) refl (sym (ap is_some e) ∙ q ∙ ap not t)
+    where
+      day : Date
+      day = record { 0 = n }
+
+      go : (b : Bool) → eqb n 0 ≡ b → is_some (cond b None (Some day)) ≡ false → n ≡ 0
+      go true z k = eqb-true n 0 z
+      go false z k = absurd (true≢false k)
+
+  pub one_found : {b : Bool} → is_some r ≡ not b → b ≡ false → n ≡ 0 → ⊥
+  unfolding as_day
+  one_found q f z = true≢false (sym q' ∙ ap is_some (e ∙ ap as_day z))
+    where
+      q' : is_some r ≡ true
+      q' = q ∙ ap not f
+
 -- ---- a sound book
 
 pub sound_close : (calendar tables : List ℕ) (day : ℕ) (balances : List ℕ) (next : ℕ) → SoundBook calendar tables day balances
     → next ≡ open_after calendar day → SoundClose calendar tables day next
 sound_close calendar tables day balances next s e =
     record {
-      calendar_words_lem = s.tables_sound.calendar_words_lem;
-      table_words_lem = s.tables_sound.table_words_lem;
       table_rules = s.tables_sound.table_rules;
       next_day = e;
     }
@@ -58,7 +87,7 @@ unfolding good_balance small
 small_one w par e = and_left _ _ e
 
 small_from : (w : ℕ) (pars : List ℕ) → good_balances_from w pars ≡ true → all small pars ≡ true
-unfolding good_balances_from all
+unfolding good_balances_from
 small_from w [] e = refl
 small_from w (par ∷ pars) e =
     and_both (small_one w par (and_left (good_balance (position w) par) (good_balances_from (suc w) pars) e))

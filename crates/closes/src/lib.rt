@@ -18,7 +18,14 @@ use judging::Market;
 use records::Refusal;
 
 // Stores the n claims of a close from the buffer's start; where there are none, no row is looked at again.
-fn store(n: usize, claims: &mut [u8], market: &Market<'_>, day: u32, next: u32, balances: &[u64]) -> usize
+fn store(
+    n: usize,
+    claims: &mut [u8],
+    market: &Market<'_>,
+    day: u32,
+    next: u32,
+    balances: &[u64],
+) -> usize
     requires { SoundClose market.now.calendar market.now.tables day next × (length balances.now ≡ 8192) × (all small balances.now ≡ true)
         × Free true claims.old 0 (close_claims market.now.calendar market.now.tables day balances.now)
         × (n ≡ length (close_claims market.now.calendar market.now.tables day balances.now)) }
@@ -28,11 +35,25 @@ fn store(n: usize, claims: &mut [u8], market: &Market<'_>, day: u32, next: u32, 
     if n == 0 {
         return 0;
     }
-    lending::pass_close(true, claims, &market.calendar, &market.tables, day, next, balances)
+    lending::pass_close(
+        true,
+        claims,
+        &market.calendar,
+        &market.tables,
+        day,
+        next,
+        balances,
+    )
 }
 
 // The close of a sound book: numbers 1 to 4 do not apply.
-fn try_close(market: &Market<'_>, book: Book, balances: &[u64], message: &[u8], claims: &mut [u8]) -> Result<Done, Refusal>
+fn try_close(
+    market: &Market<'_>,
+    book: Book,
+    balances: &[u64],
+    message: &[u8],
+    claims: &mut [u8],
+) -> Result<Done, Refusal>
     requires { first_of (book_causes market.now.calendar market.now.tables book.day balances.now) ≡ 0 }
     ensures { Gives market.now.calendar market.now.tables book balances.now
         (Call.close (record { message = message.now; buffer = claims.old })) (answered book result) claims.new balances.now }
@@ -47,7 +68,15 @@ fn try_close(market: &Market<'_>, book: Book, balances: &[u64], message: &[u8], 
     if market.calendar.open_after(next.0).is_none() {
         return Err(Refusal::LastDay);
     }
-    let n = lending::pass_close(false, claims, &market.calendar, &market.tables, day, next.0, balances);
+    let n = lending::pass_close(
+        false,
+        claims,
+        &market.calendar,
+        &market.tables,
+        day,
+        next.0,
+        balances,
+    );
     if claims.len() < 35 * n {
         return Err(Refusal::Room);
     }
@@ -61,7 +90,13 @@ fn try_close(market: &Market<'_>, book: Book, balances: &[u64], message: &[u8], 
 }
 
 // The answer to a close of a sound book.
-pub fn close_sound(market: &Market<'_>, book: Book, balances: &mut [u64], message: &[u8], claims: &mut [u8]) -> Done
+pub fn close_sound(
+    market: &Market<'_>,
+    book: Book,
+    balances: &mut [u64],
+    message: &[u8],
+    claims: &mut [u8],
+) -> Done
     requires { first_of (book_causes market.now.calendar market.now.tables book.day balances.old) ≡ 0 }
     ensures { Gives market.now.calendar market.now.tables book balances.old
         (Call.close (record { message = message.now; buffer = claims.old })) result claims.new balances.new }

@@ -6,57 +6,30 @@ use Prim.Native.Nat.{ℕ, ◌-◌, ◌≤◌, ◌<◌}
 use native.Mathlib.Nat.{le_refl}
 use native.Mathlib.Omega.{arith}
 use lib.Dec.{eqb}
-use lib.ListN.{length, take, drop}
+use lib.ListN.{take, drop}
 use borrow.Author.Tests.{eqb-true, eqb-false, eq-eqb, ne_eqb}
 use Rattle.lists.specs.Select.{select}
 use Rattle.lists.specs.Tabulate.{each}
-use Rattle.days.specs.declared.Date.{Date}
 use Rattle.days.specs.MemoDay.{before_memo}
 use Rattle.records.specs.declared.Claim.{Claim}
 use Rattle.records.specs.declared.Transfer.{Transfer}
 use Rattle.securities.specs.Securities.{security_of, type_of, rows_of, filled_rows, good_tables}
 use Rattle.securities.specs.declared.Row.{Row}
 use Rattle.tags.specs.declared.Tag.{Tag}
-use Rattle.tags.specs.declared.Tag.TheVariants.{On}
 use Rattle.tags.specs.ContractDateTag.{tagged, contract_date}
 use Rattle.claims.specs.Amounts.{fail_type, interim_type}
-use Rattle.claims.specs.Fails.{is_mbs, maximum_of, eligible_now, eligible_before, eligible, transfer_claims}
+use Rattle.claims.specs.Fails.{maximum_of, eligible_now, eligible_before, eligible, transfer_claims}
 use Rattle.claims.specs.Reached.{reached_rows, interim_end, is_kept_by, first_before, Claiming}
 use Rattle.claims.proofs.Reached.{claimed, none_by_code, claims_by_rows, reached_end, first_within, claiming, now_window, before_window, interim_window}
 use Rattle.fails.specs.declared.Recent.{Recent}
 use Rattle.fails.specs.Recent.{no_rows, untagged_rows, rows_before, rows_now, recent_rows, recent_claims}
 use Rattle.fails.proofs.Due.{due_each}
 
--- ---- the cases of the code
+-- ---- another tracking code
 
-module _ (tables limits : List ℕ) (day : ℕ) (t : Transfer) (tag : Tag) where
-  pub rows_by_code : (t.code ≡ 0 → ⊥) → no_rows ≡ recent_rows tables limits day t tag
-  unfolding recent_rows
-  rows_by_code h = rw (ne_eqb t.code 0 h) refl
-
-  module _ (z : t.code ≡ 0) where
-    pub rows_untagged : {n k : ℕ} → n ≡ reached_rows tables t.security day → k ≡ interim_end tables t.security day → tagged tag ≡ false
-        → ◌≡◌ {A = Recent} (record { after = 0; first = n; reached = n; end = k; waiting = n }) (recent_rows tables limits day t tag)
-    unfolding recent_rows untagged_rows
-    rows_untagged e q u = rw (eq-eqb t.code 0 z, u, e, q) refl
-
-    module _ {date : Date} (g : tag ≡ On date) where
-      pub rows_earlier : before_memo day ≡ true → rows_before tables day t date.0 ≡ recent_rows tables limits day t tag
-      unfolding recent_rows tagged contract_date
-      rows_earlier d = rw (g, eq-eqb t.code 0 z, d) refl
-
-      pub rows_later : before_memo day ≡ false → rows_now tables limits day t date.0 ≡ recent_rows tables limits day t tag
-      unfolding recent_rows tagged contract_date
-      rows_later d = rw (g, eq-eqb t.code 0 z, d) refl
-
-module _ (tables : List ℕ) (s day : ℕ) where
-  pub first_mbs : is_mbs (type_of (security_of tables s)) ≡ true → 0 ≡ first_before tables s day
-  unfolding first_before
-  first_mbs e = rw e
-
-  pub first_other : is_mbs (type_of (security_of tables s)) ≡ false → reached_rows tables s day ≡ first_before tables s day
-  unfolding first_before
-  first_other e = rw e
+rows_by_code : (tables limits : List ℕ) (day : ℕ) (t : Transfer) (tag : Tag) → (t.code ≡ 0 → ⊥) → no_rows ≡ recent_rows tables limits day t tag
+unfolding recent_rows
+rows_by_code tables limits day t tag h = rw (ne_eqb t.code 0 h) refl
 
 -- ---- the claims
 
@@ -65,11 +38,11 @@ pub record Recently (calendar tables limits : List ℕ) (day number : ℕ) (t : 
   pub claims : transfer_claims calendar tables limits day number t tag ≡ recent_claims calendar tables day number t rows
   pub order : rows.first ≤ rows.end
   pub few : rows.end ≤ 16
-  pub asks : length calendar ≡ 480 → length tables ≡ 1824 → t.sender < 16 → Claiming calendar tables t
+  pub asks : t.sender < 16 → Claiming tables t
 
 module _ (calendar tables limits : List ℕ) (day number : ℕ) (t : Transfer) (sound : good_tables calendar tables ≡ true) (held : t.security < 16) where
   other_code : (tag : Tag) → (t.code ≡ 0 → ⊥) → Recently calendar tables limits day number t tag no_rows
-  unfolding no_rows recent_claims each
+  unfolding recent_claims each
   other_code tag h =
       record {
         claims = none_by_code calendar tables day number t limits tag h;

@@ -4,9 +4,8 @@ use mathlib.Core.Bool.{Bool, true, false, cond}
 use mathlib.Core.List.{List, [], ◌∷◌, ◌++◌, map}
 use Prim.Native.Nat.{ℕ, ◌+◌, ◌-◌, ◌≤◌, ◌<◌}
 use native.Mathlib.Omega.{arith}
-use lib.Dec.{eqb}
 use lib.ListN.{length, take, drop, length-drop}
-use borrow.Author.Tests.{eq-eqb, ne_eqb, lt-ltb, le-ltb}
+use borrow.Author.Tests.{lt-ltb, le-ltb}
 use Rattle.lists.specs.Select.{select}
 use Rattle.lists.specs.Tabulate.{each}
 use Rattle.records.specs.declared.Claim.{Claim}
@@ -19,24 +18,24 @@ use Rattle.claims.specs.Reached.{row_at, is_kept_by}
 use Rattle.claims.proofs.Runs.{map_each, each_select, each_of_take, each_agree, each_append}
 use Rattle.claims.proofs.TableRows.{length_rows_of, row_behind}
 use Rattle.claims.proofs.Reached.{claimed}
-use Rattle.claims.proofs.RowLoops.{words_at, words_row}
+use Rattle.std.proofs.Common.{Option, Some, None}
+use Rattle.amounts.specs.Numbers.{type_number}
+use Rattle.amounts.specs.declared.ClaimType.{ClaimType}
+use Rattle.amounts.specs.declared.ClaimType.TheVariants as claim_type
 use Rattle.fails.specs.declared.Recent.{Recent}
-use Rattle.fails.specs.Recent.{due_type, due_claim, recent_claims}
+use Rattle.fails.specs.Recent.{due_type, typed_claim, due_claim, recent_claims}
 
 module _ (calendar tables : List ℕ) (day number : ℕ) (t : Transfer) (w : Recent) where
-  -- ---- the claim on a row, by its words
+  -- ---- the claim on a row, by its type
 
-  module _ (i claim_type : ℕ) (e : claim_type ≡ due_type day w (row_of i (words_at tables t.security i))) where
-    pub due_none : claim_type ≡ 0 → due_claim calendar tables day number t w (row_at tables t.security i) ≡ []
-    unfolding due_claim
-    due_none z = rw (← words_row tables t.security i, ← e, eq-eqb claim_type 0 z)
+  pub due_none : (row : Row) {x : Option ClaimType} → x ≡ due_type day w row → x ≡ None → due_claim calendar tables day number t w row ≡ []
+  unfolding due_claim typed_claim
+  due_none row e n = rw (← e, n)
 
-    pub due_one : (par : ℕ) (c : Claim) → (claim_type ≡ 0 → ⊥) → par ≡ t.par
-        → c ≡ claim_on calendar tables day number (record { security = t.security; payee = t.receiver; payer = t.sender }) par claim_type
-        (row_of i (words_at tables t.security i))
-        → due_claim calendar tables day number t w (row_at tables t.security i) ≡ c ∷ []
-    unfolding due_claim transfer_parties
-    due_one par c z p q = rw (← words_row tables t.security i, ← e, ne_eqb claim_type 0 z, ← p, ← q)
+  pub due_one : (row : Row) {x : Option ClaimType} {claim_type : ClaimType} → x ≡ due_type day w row → x ≡ Some claim_type
+      → due_claim calendar tables day number t w row ≡ claim_on calendar tables day number (transfer_parties t) t.par (type_number claim_type) row ∷ []
+  unfolding due_claim typed_claim
+  due_one row e n = rw (← e, n)
 
   -- ---- one row after the other
 
@@ -60,15 +59,15 @@ module _ (calendar tables : List ℕ) (day number : ℕ) (t : Transfer) (w : Rec
     long k n h m = omega (arith, length-drop k rows, length_rows_of tables t.security)
 
     fail_at : (i : ℕ) → i < w.reached → cond (kept (here i)) (claim fail_type (here i) ∷ []) [] ≡ due_at i
-    unfolding due_claim due_type row_at row_of
+    unfolding due_claim typed_claim due_type row_at row_of type_number
     fail_at i h = rw (lt-ltb i w.reached h) (go (kept (here i)))
       where
-        go : (b : Bool) → cond b (claim 1 (here i) ∷ []) [] ≡ cond (eqb (cond b 1 0) 0) [] (claim (cond b 1 0) (here i) ∷ [])
+        go : (b : Bool) → cond b (claim 1 (here i) ∷ []) [] ≡ typed_claim calendar tables day number t (here i) (cond b (Some claim_type.Fail) None)
         go true = refl
         go false = refl
 
     interim_at : (i : ℕ) → w.reached ≤ i → claim interim_type (here i) ∷ [] ≡ due_at i
-    unfolding due_claim due_type row_at row_of
+    unfolding due_claim typed_claim due_type row_at row_of type_number
     interim_at i h = rw (le-ltb i w.reached h)
 
     fail_part : map (claim fail_type) (select kept (take (w.reached - w.first) (drop w.first rows)))

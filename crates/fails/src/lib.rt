@@ -6,20 +6,26 @@
 // counts the claims, one with write true stores them too.
 #![tactic(auto)]
 
-ghost use Rattle.std.specs.Prelude.{◌≡◌, true, ◌&&◌, ◌+◌, ◌-◌, ◌≤◌, ◌<◌, ltb, length};
+ghost use Rattle.std.specs.Prelude.{◌≡◌, true, ◌-◌, ◌≤◌, ◌<◌};
 ghost use Rattle.days.specs.Days.{is_date};
-ghost use Rattle.securities.specs.Securities.{security_of, frequency_of, row_of};
-ghost use Rattle.claims.specs.Fails.{is_mbs, maximum_for};
+ghost use Rattle.securities.specs.Securities.{security_of, frequency_of};
 ghost use Rattle.claims.specs.Passes.{Free, Passed};
-ghost use Rattle.claims.specs.Reached.{row_at, reached_from, reached_rows, interim_end, waiting_row, after_both, first_before, Claiming};
-ghost use Rattle.fails.specs.Recent.{no_rows, rows_before, rows_now, recent_rows, due_type, due_claim, recent_claims};
+ghost use Rattle.claims.specs.Reached.{is_reached, reached_from, reached_rows, interim_end, is_waiting, waiting_row, after_both, Claiming};
+ghost use Rattle.fails.specs.Recent.{column, untagged_rows, rows_before, rows_now, recent_rows, due_type, recent_claims};
 
+use amounts::ClaimType;
+use claims::Parties;
+use days::Calendar;
 use records::Transfer;
+use securities::{Limits, Row, Tables};
 use tags::Tag;
+
+// The rows of a security.
+const ROWS: u8 = 16;
 
 // The rows on which a transfer claims: those from first up to reached as failed if their Beneficiary Date is behind the number after and,
 // behind the waiting row, their Payment Date is not after the day; those from reached up to end as interim.
-#[derive(Clone, Copy)]
+#[derive(Clone, Copy, Debug, PartialEq, Eq)]
 pub struct Recent {
     pub after: u32,
     pub first: u8,
@@ -28,318 +34,246 @@ pub struct Recent {
     pub waiting: u8,
 }
 
-// The word of a row that holds its Record Date.
-const RECORD_DATE: usize = 0;
+// No rows: the tracking code is not 0.
+const NO_ROWS: Recent = Recent {
+    after: 0,
+    first: 0,
+    reached: 0,
+    end: 0,
+    waiting: 0,
+};
 
-// The word of a row that holds its Beneficiary Date.
-const BENEFICIARY_DATE: usize = 1;
-
-// The word of a row that holds its Payment Date.
-const PAYMENT_DATE: usize = 2;
-
-// The claim type of a row that is not claimed.
-const NONE: u8 = 0;
-
-// The place of the date limit of MBS; that of another type is its frequency.
-const MBS: usize = 0;
-
-// Whether a type is MBS.
-fn is_mbs(security_type: u32) -> bool
-    ensures { result ≡ is_mbs security_type }
-{
-    3 <= security_type
+// The date by which the day reaches a row.
+#[derive(Clone, Copy, Debug, PartialEq, Eq)]
+enum RowDate {
+    Record,
+    Beneficiary,
 }
 
-// Of date limits the maximum number for a type and a frequency.
-fn maximum_for(limits: &[u32], security_type: u32, frequency: u32) -> u32
-    requires { (length limits.now ≡ 5) × (frequency ≤ 4) }
-    ensures { result ≡ maximum_for limits.now security_type frequency }
-{
-    if is_mbs(security_type) {
-        return limits[MBS];
+impl RowDate {
+    // Whether a row has that date on or before the day.
+    #[tactic(auto, unfolding(claims::specs::Reached::is_reached, claims::specs::Reached::date_at))]
+    fn is_reached(self, day: u32, row: Row) -> bool
+        ensures { result ≡ is_reached (column self) day row }
+    {
+        let date = match self {
+            RowDate::Record => row.record_date,
+            RowDate::Beneficiary => row.beneficiary_date,
+        };
+        0 < date && date <= day
     }
-    limits[frequency as usize]
 }
 
-// The row behind those of a security, from a first one on, that the day has reached by the date in a word of the row.
-fn reached_rows(tables: &[u32], security: u8, day: u32, column: usize, first: u8) -> u8
-    requires { (length tables.now ≡ 1824) × (security < 16) × (column < 2) × (first ≤ 16) }
-    ensures { result ≡ reached_from column tables.now security day first }
+// The row behind those of a security, from a first one on, that the day has reached by that date.
+fn reached_rows(tables: &Tables<'_>, security: u8, day: u32, by: RowDate, first: u8) -> u8
+    requires { (security < 16) × (first ≤ 16) }
+    ensures { result ≡ reached_from (column by) tables.now security day first }
 {
-    let mut i = first;
-    while i < 16 {
-        let date = tables[114 * (security as usize) + 2 + 7 * (i as usize) + column];
-        if date == 0 {
-            return i;
-        }
-        if day < date {
-            return i;
-        }
-        i += 1;
-    }
-    i
+    (first..ROWS)
+        .find(
+            |i|
+                requires { (i.now < 16) × (security < 16) }
+            { !by.is_reached(day, tables.row(security, *i)) },
+        )
+        .unwrap_or(ROWS)
 }
 
-// The row behind the interim rows, which begin behind the rows that the day has reached by Beneficiary Date.
-fn interim_end(tables: &[u32], security: u8, day: u32, reached: u8) -> u8
-    requires { (length tables.now ≡ 1824) × (security < 16) × (reached ≡ reached_rows tables.now security day) }
+// The row behind the interim rows, which begin behind the rows that the day has reached by Beneficiary Date; of MBS alone there are any.
+#[tactic(auto, using(claims::proofs::Reached::few_reached), unfolding(claims::specs::Reached::interim_end, claims::specs::Reached::reached_rows))]
+fn interim_end(tables: &Tables<'_>, security: u8, day: u32, reached: u8) -> u8
+    requires { (security < 16) × (reached ≡ reached_rows tables.now security day) }
     ensures { result ≡ interim_end tables.now security day }
 {
-    if !is_mbs(securities::security_type(tables, security as usize)) {
-        return reached;
+    if tables.is_mbs(security) {
+        reached_rows(tables, security, day, RowDate::Record, reached)
+    } else {
+        reached
     }
-    reached_rows(tables, security, day, RECORD_DATE, reached)
 }
 
 // Whether a row waits for its Payment Date and has its Beneficiary Date after the Contract Date.
-fn is_waiting(contract: u32, day: u32, beneficiary_date: u32, payment_date: u32) -> bool
-    ensures { result ≡ (ltb contract beneficiary_date && ltb day payment_date) }
+#[tactic(auto, unfolding(claims::specs::Reached::is_waiting, claims::specs::Fails::waits))]
+fn is_waiting(contract: u32, day: u32, row: Row) -> bool
+    ensures { result ≡ is_waiting contract day row }
 {
-    if beneficiary_date <= contract {
-        return false;
-    }
-    day < payment_date
+    contract < row.beneficiary_date && day < row.payment_date
 }
 
 // The first row of MBS, from a first one up to the reached ones, that waits for its Payment Date and has its Beneficiary Date after the
 // Contract Date; the row behind them for other types and where there is none.
-fn waiting_row(tables: &[u32], security: u8, contract: u32, day: u32, first: u8, reached: u8) -> u8
-    requires { (length tables.now ≡ 1824) × (security < 16) × (first ≤ reached) × (reached ≡ reached_rows tables.now security day) }
+fn waiting_row(
+    tables: &Tables<'_>,
+    security: u8,
+    contract: u32,
+    day: u32,
+    first: u8,
+    reached: u8,
+) -> u8
+    requires { (security < 16) × (first ≤ reached) × (reached ≡ reached_rows tables.now security day) }
     ensures { result ≡ waiting_row tables.now security contract day first }
 {
-    if !is_mbs(securities::security_type(tables, security as usize)) {
+    if !tables.is_mbs(security) {
         return reached;
     }
-    let mut i = first;
-    while i < reached {
-        let at = 114 * (security as usize) + 2 + 7 * (i as usize);
-        if is_waiting(
-            contract,
-            day,
-            tables[at + BENEFICIARY_DATE],
-            tables[at + PAYMENT_DATE],
-        ) {
-            return i;
-        }
-        i += 1;
-    }
-    reached
-}
-
-// The first of the last rows, up to a maximum number, of n.
-fn first_of_last(n: u8, maximum: u32) -> u8
-    ensures { result ≡ n - maximum }
-{
-    let all = n as u32;
-    if all < maximum {
-        return 0;
-    }
-    (all - maximum) as u8
-}
-
-// No rows: the tracking code is not 0.
-fn no_rows() -> Recent
-    ensures { result ≡ no_rows }
-{
-    Recent {
-        after: 0,
-        first: 0,
-        reached: 0,
-        end: 0,
-        waiting: 0,
-    }
+    (first..reached)
+        .find(
+            |i|
+                requires { (i.now < 16) × (security < 16) }
+            { is_waiting(contract, day, tables.row(security, *i)) },
+        )
+        .unwrap_or(reached)
 }
 
 // The number behind which a date is after the Contract Date and on or after another date.
+#[tactic(auto, unfolding(claims::specs::Reached::after_both))]
 fn after_both(contract: u32, from: u32) -> u32
     ensures { result ≡ after_both contract from }
 {
-    if contract < from {
-        return from - 1;
-    }
-    contract
+    contract.max(from.saturating_sub(1))
 }
 
-// The first row that may be claimed before the 2023 memo: of MBS the first of all, of other types the one behind the reached rows.
-fn first_before(tables: &[u32], security: u8, day: u32, reached: u8) -> u8
-    requires { (length tables.now ≡ 1824) × (security < 16) × (reached ≡ reached_rows tables.now security day) }
-    ensures { result ≡ first_before tables.now security day }
+// The rows of a transfer without a date in its tag: none is claimed as failed.
+#[tactic(auto, unfolding(crate::specs::Recent::untagged_rows, claims::specs::Reached::reached_rows))]
+fn untagged_rows(tables: &Tables<'_>, day: u32, t: Transfer) -> Recent
+    requires { t.security < 16 }
+    ensures { result ≡ untagged_rows tables.now day t }
 {
-    if is_mbs(securities::security_type(tables, security as usize)) {
-        return 0;
-    }
-    reached
-}
-
-// The rows of a transfer with a Contract Date before the 2023 memo: of MBS all that are reached, within the half year.
-fn rows_before(tables: &[u32], day: u32, t: Transfer, contract: u32, reached: u8, end: u8) -> Recent
-    requires { (length tables.now ≡ 1824) × (t.security < 16) × (is_date day ≡ true)
-        × (reached ≡ reached_rows tables.now t.security day) × (end ≡ interim_end tables.now t.security day) }
-    ensures { result ≡ rows_before tables.now day t contract }
-{
+    let reached = reached_rows(tables, t.security, day, RowDate::Beneficiary, 0);
     Recent {
-        after: after_both(contract, days::six_months_before(day)),
-        first: first_before(tables, t.security, day, reached),
+        after: 0,
+        first: reached,
         reached,
-        end,
+        end: interim_end(tables, t.security, day, reached),
         waiting: reached,
     }
 }
 
-// The rows of a transfer with a Contract Date from the memo on: the most recent that are reached, up to the maximum number.
-fn rows_now(
-    tables: &[u32],
-    limits: &[u32],
+// The rows of a transfer with a Contract Date before the 2023 memo: of MBS all that are reached, within the half year; of other types none.
+#[tactic(auto, unfolding(crate::specs::Recent::rows_before, crate::specs::Recent::untagged_rows, claims::specs::Reached::first_before))]
+fn rows_before(
+    tables: &Tables<'_>,
     day: u32,
     t: Transfer,
     contract: u32,
-    reached: u8,
-    end: u8,
+    untagged: Recent,
 ) -> Recent
-    requires { (length tables.now ≡ 1824) × (length limits.now ≡ 5) × (t.security < 16) × (frequency_of (security_of tables.now t.security) ≤ 4)
-        × (reached ≡ reached_rows tables.now t.security day) × (end ≡ interim_end tables.now t.security day) }
+    requires { (t.security < 16) × (is_date day ≡ true) × (untagged ≡ untagged_rows tables.now day t) }
+    ensures { result ≡ rows_before tables.now day t contract }
+{
+    Recent {
+        after: after_both(contract, days::six_months_before(day)),
+        first: if tables.is_mbs(t.security) {
+            0
+        } else {
+            untagged.reached
+        },
+        ..untagged
+    }
+}
+
+// The rows of a transfer with a Contract Date from the memo on: the most recent that are reached, up to the maximum number.
+#[tactic(auto, unfolding(crate::specs::Recent::rows_now, crate::specs::Recent::untagged_rows))]
+fn rows_now(
+    tables: &Tables<'_>,
+    limits: &Limits<'_>,
+    day: u32,
+    t: Transfer,
+    contract: u32,
+    untagged: Recent,
+) -> Recent
+    requires { (t.security < 16) × (frequency_of (security_of tables.now t.security) ≤ 4) × (untagged ≡ untagged_rows tables.now day t) }
     ensures { result ≡ rows_now tables.now limits.now day t contract }
 {
-    let s = t.security as usize;
-    let maximum = maximum_for(
-        limits,
-        securities::security_type(tables, s),
-        securities::frequency(tables, s),
-    );
-    let first = first_of_last(reached, maximum);
+    let reached = untagged.reached;
+    let maximum = limits.maximum(tables, t.security);
+    let first = u32::from(reached).saturating_sub(maximum) as u8;
     Recent {
         after: contract,
         first,
-        reached,
-        end,
         waiting: waiting_row(tables, t.security, contract, day, first, reached),
+        ..untagged
     }
 }
 
 // The rows on which a transfer claims, found once for both passes.
-pub fn recent_rows(tables: &[u32], limits: &[u32], day: u32, t: Transfer, tag: Tag) -> Recent
-    requires { (length tables.now ≡ 1824) × (length limits.now ≡ 5) × (t.security < 16) × (frequency_of (security_of tables.now t.security) ≤ 4)
-        × (is_date day ≡ true) }
+#[tactic(auto, unfolding(crate::specs::Recent::recent_rows, tags::specs::ContractDateTag::tagged, tags::specs::ContractDateTag::contract_date))]
+pub fn recent_rows(
+    tables: &Tables<'_>,
+    limits: &Limits<'_>,
+    day: u32,
+    t: Transfer,
+    tag: Tag,
+) -> Recent
+    requires { (t.security < 16) × (frequency_of (security_of tables.now t.security) ≤ 4) × (is_date day ≡ true) }
     ensures { result ≡ recent_rows tables.now limits.now day t tag }
 {
     if t.code != 0 {
-        return no_rows();
+        return NO_ROWS;
     }
-    let reached = reached_rows(tables, t.security, day, BENEFICIARY_DATE, 0);
-    let end = interim_end(tables, t.security, day, reached);
-    let Tag::On(date) = tag else {
-        return Recent {
-            after: 0,
-            first: reached,
-            reached,
-            end,
-            waiting: reached,
-        };
-    };
-    if days::before_memo(day) {
-        return rows_before(tables, day, t, date.0, reached, end);
+    let untagged = untagged_rows(tables, day, t);
+    match tag {
+        Tag::On(date) if days::before_memo(day) => rows_before(tables, day, t, date.0, untagged),
+        Tag::On(date) => rows_now(tables, limits, day, t, date.0, untagged),
+        _ => untagged,
     }
-    rows_now(tables, limits, day, t, date.0, reached, end)
 }
 
 // The claim type of a row, none where it is not claimed.
-fn due_type(rows: Recent, day: u32, index: u8, row: &[u32]) -> u8
-    requires { length row.now ≡ 7 }
-    ensures { result ≡ due_type day rows (row_of index row.now) }
+#[tactic(auto, unfolding(crate::specs::Recent::due_type, claims::specs::Reached::is_kept_by, claims::specs::Fails::waits))]
+fn due_type(rows: Recent, day: u32, row: Row) -> Option<ClaimType>
+    ensures { result ≡ due_type day rows row }
 {
-    if rows.reached <= index {
-        return amounts::INTERIM;
+    if rows.reached <= row.index {
+        Some(ClaimType::Interim)
+    } else if rows.after < row.beneficiary_date
+        && (row.index <= rows.waiting || row.payment_date <= day)
+    {
+        Some(ClaimType::Fail)
+    } else {
+        None
     }
-    if row[BENEFICIARY_DATE] <= rows.after {
-        return NONE;
-    }
-    if index <= rows.waiting {
-        return amounts::FAIL;
-    }
-    if day < row[PAYMENT_DATE] {
-        return NONE;
-    }
-    amounts::FAIL
-}
-
-// The claim on one row, counted or stored at the record place n; the next record place.
-fn pass_row(
-    write: bool,
-    buffer: &mut [u8],
-    n: usize,
-    calendar: &[u32],
-    tables: &[u32],
-    day: u32,
-    number: u32,
-    t: Transfer,
-    rows: Recent,
-    index: u8,
-) -> usize
-    requires { Claiming calendar.now tables.now t × (index < 16)
-        × Free write buffer.old n (due_claim calendar.now tables.now day number t rows (row_at tables.now t.security index)) }
-    ensures { Passed write buffer.old buffer.new n result
-        (due_claim calendar.now tables.now day number t rows (row_at tables.now t.security index)) }
-{
-    let at = 114 * (t.security as usize) + 2 + 7 * (index as usize);
-    let row = &tables[at..at + 7];
-    let claim_type = due_type(rows, day, index, row);
-    if claim_type == NONE {
-        return n;
-    }
-    if !write {
-        return n + 1;
-    }
-    let c = amounts::claim_on(
-        calendar,
-        tables,
-        day,
-        number,
-        t.security,
-        t.receiver,
-        t.sender,
-        t.dollars(),
-        claim_type,
-        index,
-        row,
-    );
-    amounts::put_claim(buffer, n, c);
-    n + 1
 }
 
 // The claims on the rows, counted, or stored from the buffer's start; how many there are.
 pub fn transfer_claims(
     write: bool,
     buffer: &mut [u8],
-    calendar: &[u32],
-    tables: &[u32],
+    calendar: &Calendar<'_>,
+    tables: &Tables<'_>,
     day: u32,
     number: u32,
     t: Transfer,
     rows: Recent,
 ) -> usize
-    requires { Claiming calendar.now tables.now t × (rows.first ≤ rows.end) × (rows.end ≤ 16)
+    requires { Claiming tables.now t × (rows.first ≤ rows.end) × (rows.end ≤ 16)
         × Free write buffer.old 0 (recent_claims calendar.now tables.now day number t rows) }
     ensures { Passed write buffer.old buffer.new 0 result
         (recent_claims calendar.now tables.now day number t rows) }
 {
-    let first = rows.first;
-    let count = rows.end - first;
-    let mut n: usize = 0;
-    let mut j: u8 = 0;
-    while j < count {
-        n = pass_row(
-            write,
-            buffer,
-            n,
-            calendar,
-            tables,
-            day,
-            number,
-            t,
-            rows,
-            first + j,
-        );
-        j += 1;
+    let parties = Parties {
+        security: t.security,
+        payee: t.receiver,
+        payer: t.sender,
+    };
+    let mut n = 0;
+    for index in rows.first..rows.end {
+        let row = tables.row(t.security, index);
+        if let Some(claim_type) = due_type(rows, day, row) {
+            if write {
+                let c = amounts::claim_on(
+                    calendar,
+                    tables,
+                    day,
+                    number,
+                    parties,
+                    t.dollars(),
+                    claim_type,
+                    row,
+                );
+                amounts::put_claim(buffer, n, c);
+            }
+            n += 1;
+        }
     }
     n
 }

@@ -6,10 +6,13 @@ use std::io;
 // Says on standard error what failed, and why, in the system's words; the number that the library writes behind these is left out.
 pub fn tell(rt: &(impl Eprint + Alloc), what: &str, error: io::Error) {
     let _ = match format!(in rt.alloc(); "{error}") {
-        Ok(text) => match text.as_str().split_once(" (os error ") {
-            Some((words, _)) => eprintln!(rt; "{what}: {words}"),
-            None => eprintln!(rt; "{what}: {text}"),
-        },
+        Ok(text) => {
+            let text = text.as_str();
+            let words = text
+                .split_once(" (os error ")
+                .map_or(text, |(words, _)| words);
+            eprintln!(rt; "{what}: {words}")
+        }
         Err(_) => eprintln!(rt; "{what}: {error}"),
     };
 }

@@ -9,6 +9,11 @@ use Rattle.lists.specs.First.{first_of, numbered, none_applies, next_group}
 use Rattle.lists.proofs.First.{hit_group}
 use Rattle.days.specs.Days.{first_date}
 use Rattle.claims.specs.Written.{written}
+use Rattle.std.proofs.Common.{Err}
+use Rattle.records.specs.declared.Refusal.{Refusal}
+use Rattle.records.specs.Refusals.{refusal_number}
+use Rattle.records.proofs.Refusals.{refused_number}
+use Rattle.book.specs.Answered.{answered}
 use Rattle.book.specs.declared.Book.{Book}
 use Rattle.book.specs.Soundness.{opening_causes}
 use Rattle.book.proofs.Judged.{numbered_book, numbered_lent}
@@ -50,6 +55,17 @@ module _ (calendar tables : List ℕ) (book : Book) (balances : List ℕ) (call 
       → left (record { number = n; book = book; claims = 0 }) (buffer_of call) balances ≡ result calendar tables book balances call
   unfolding result
   answers_refused n e d = refused_for n d ∙ ap (λ (k : ℕ). result_for k calendar tables book balances call) e
+
+  -- a refusal of the book, and one behind it
+  pub refused_first : (f : Refusal) → refusal_number f ≡ first_of (sound_causes calendar tables book.day balances call)
+      → left (record { number = refusal_number f; book = book; claims = 0 }) (buffer_of call) balances ≡ result calendar tables book balances call
+  refused_first f e = answers_refused (refusal_number f) (book_refuses _ e (refused_number f)) (refused_number f)
+
+  pub refused_next : (f : Refusal) → first_of (sound_causes calendar tables book.day balances call) ≡ 0
+      → refusal_number f ≡ first_of (call_causes calendar tables book balances call)
+      → left (answered book (Err f)) (buffer_of call) balances ≡ result calendar tables book balances call
+  unfolding answered
+  refused_next f z e = answers_refused (refusal_number f) (sound_number _ z e) (refused_number f)
 
   -- an accepted call answers 0, the next book and how many claims it wrote
   pub answers_accepted : (b : Book) (k : ℕ) (buffer after : List ℕ) → 0 ≡ number_for calendar tables book balances call

@@ -5,269 +5,160 @@
 
 ghost use Rattle.std.specs.Prelude.{◌≡◌, true, ◌≤◌, ◌<◌, length};
 ghost use Rattle.lists.specs.All.{all};
-ghost use Rattle.securities.specs.Securities.{row_of};
-ghost use Rattle.claims.specs.Close.{loan_parties, loan_claim, tracking_claims, row_claims, close_claims};
+ghost use Rattle.claims.specs.Close.{tracking_claims, close_claims};
 ghost use Rattle.claims.specs.Passes.{Free, Passed};
-ghost use Rattle.claims.specs.Turns.{Ready, Sound, SoundClose, lender_claims, turn_claims, security_claims, small};
+ghost use Rattle.claims.specs.Turns.{Ready, Sound, SoundClose, small};
+ghost use Rattle.amounts.specs.Numbers.{type_number};
+ghost use Rattle.lending.specs.Levels.{loan_level, lender_level, tracking_level, row_level, turn_level, security_level};
 
-use amounts::{LENDING, claim_on, put_claim};
+mod given;
+
+use crate::given::{Close, Entry};
+use amounts::{ClaimType, claim_on, put_claim};
+use claims::Parties;
+use days::Calendar;
 use records::Dollars;
+use securities::{Row, Tables};
 
-// The claim of a type on a row that a borrower pays: none where there is no par.
-fn pass_loan(
-    write: bool,
-    buffer: &mut [u8],
-    n: usize,
-    calendar: &[u32],
-    tables: &[u32],
-    day: u32,
-    claim_type: u8,
-    security: u8,
-    lender: u8,
-    borrower: u8,
-    par: u64,
-    index: u8,
-    row: &[u32],
-) -> usize
-    requires { Ready calendar.now tables.now row.now security × (borrower < 16) × (par ≤ 9000000000)
-        × Free write buffer.old n
-        (loan_claim calendar.now tables.now day claim_type (row_of index row.now) (loan_parties security lender borrower) par) }
-    ensures { Passed write buffer.old buffer.new n result
-        (loan_claim calendar.now tables.now day claim_type (row_of index row.now)
-        (loan_parties security lender borrower) par) }
-{
-    if par == 0 {
-        return n;
+const SECURITIES: u8 = 16;
+
+const ROWS: u8 = 16;
+
+const ACCOUNTS: u8 = 16;
+
+impl Entry<'_> {
+    // The claim that a borrower pays a lender: none where there is no par.
+    fn pass_loan(
+        &self,
+        write: bool,
+        buffer: &mut [u8],
+        n: usize,
+        lender: u8,
+        borrower: u8,
+        par: u64,
+    ) -> usize
+        requires { (borrower < 16) × (par ≤ 9000000000) × Free write buffer.old n (loan_level self.now lender borrower par) }
+        ensures { Passed write buffer.old buffer.new n result (loan_level self.now lender borrower par) }
+    {
+        if par == 0 {
+            return n;
+        }
+        if write {
+            let parties = Parties {
+                security: self.security,
+                payee: lender,
+                payer: borrower,
+            };
+            let c = claim_on(
+                self.calendar,
+                self.tables,
+                self.day,
+                0,
+                parties,
+                Dollars(par),
+                self.claim_type,
+                self.row,
+            );
+            put_claim(buffer, n, c);
+        }
+        n + 1
     }
-    if !write {
-        return n + 1;
+
+    // The claims of a lender, by borrower; lent is what it has lent each of the 16.
+    fn pass_lender(
+        &self,
+        write: bool,
+        buffer: &mut [u8],
+        n: usize,
+        lender: u8,
+        lent: &[u64],
+    ) -> usize
+        requires { (length lent.now ≡ 16) × (all small lent.now ≡ true) × Free write buffer.old n (lender_level self.now lender lent.now) }
+        ensures { Passed write buffer.old buffer.new n result (lender_level self.now lender lent.now) }
+    {
+        let mut m = n;
+        for (borrower, par) in lent.iter().enumerate() {
+            m = self.pass_loan(write, buffer, m, lender, borrower as u8, *par);
+        }
+        m
     }
-    put_claim(
-        buffer,
-        n,
-        claim_on(
-            calendar,
-            tables,
-            day,
-            0,
-            security,
-            lender,
-            borrower,
-            Dollars(par),
-            claim_type,
-            index,
-            row,
-        ),
-    );
-    n + 1
+
+    // The claims by lender and borrower; held is the balances of the tracking in the security.
+    fn pass_tracking(&self, write: bool, buffer: &mut [u8], n: usize, held: &[u64]) -> usize
+        requires { (length held.now ≡ 256) × (all small held.now ≡ true) × Free write buffer.old n (tracking_level self.now held.now) }
+        ensures { Passed write buffer.old buffer.new n result (tracking_level self.now held.now) }
+    {
+        let mut m = n;
+        for lender in 0..ACCOUNTS {
+            let at = 16 * lender as usize;
+            m = self.pass_lender(write, buffer, m, lender, &held[at..at + 16]);
+        }
+        m
+    }
 }
 
-// The claims of a lender on a row, by borrower; lent is what it has lent each of the 16.
-fn pass_lender(
-    write: bool,
-    buffer: &mut [u8],
-    n: usize,
-    calendar: &[u32],
-    tables: &[u32],
-    day: u32,
-    claim_type: u8,
-    security: u8,
-    lender: u8,
-    lent: &[u64],
-    index: u8,
-    row: &[u32],
-) -> usize
-    requires { Ready calendar.now tables.now row.now security × (length lent.now ≡ 16) × (all small lent.now ≡ true)
-        × Free write buffer.old n (lender_claims calendar.now tables.now day claim_type (row_of index row.now) security lender lent.now) }
-    ensures { Passed write buffer.old buffer.new n result
-        (lender_claims calendar.now tables.now day claim_type (row_of index row.now)
-        security lender lent.now) }
-{
-    let mut m = n;
-    let mut b: u8 = 0;
-    while b < 16 {
-        m = pass_loan(
-            write,
-            buffer,
-            m,
-            calendar,
-            tables,
-            day,
-            claim_type,
-            security,
-            lender,
-            b,
-            lent[b as usize],
-            index,
-            row,
-        );
-        b += 1;
-    }
-    m
-}
-
-// The claims of a type on a row, by lender and borrower; held is the balances of its tracking in its security.
-fn pass_tracking(
-    write: bool,
-    buffer: &mut [u8],
-    n: usize,
-    calendar: &[u32],
-    tables: &[u32],
-    day: u32,
-    claim_type: u8,
-    security: u8,
-    held: &[u64],
-    index: u8,
-    row: &[u32],
-) -> usize
-    requires { Ready calendar.now tables.now row.now security × (length held.now ≡ 256) × (all small held.now ≡ true)
-        × Free write buffer.old n (tracking_claims calendar.now tables.now day claim_type security held.now (row_of index row.now)) }
-    ensures { Passed write buffer.old buffer.new n result
-        (tracking_claims calendar.now tables.now day claim_type
-        security held.now (row_of index row.now)) }
-{
-    let mut m = n;
-    let mut l: u8 = 0;
-    while l < 16 {
-        let a = 16 * (l as usize);
-        m = pass_lender(
-            write,
-            buffer,
-            m,
-            calendar,
-            tables,
-            day,
+impl<'a> Close<'a> {
+    // A row of a security with the type of its claims.
+    fn entry(&self, claim_type: ClaimType, security: u8, row: Row) -> Entry<'a>
+        requires { Ready security row }
+        ensures { tracking_level result
+            ≡ (λ held. tracking_claims self.now.calendar.now self.now.tables.now self.now.day (type_number claim_type) security held row) }
+    {
+        Entry {
+            calendar: self.calendar,
+            tables: self.tables,
+            day: self.day,
             claim_type,
             security,
-            l,
-            &held[a..a + 16],
-            index,
             row,
-        );
-        l += 1;
+        }
     }
-    m
-}
 
-// The claims on a row, lending before repo.
-fn pass_row(
-    write: bool,
-    buffer: &mut [u8],
-    n: usize,
-    calendar: &[u32],
-    tables: &[u32],
-    day: u32,
-    security: u8,
-    balances: &[u64],
-    index: u8,
-    row: &[u32],
-) -> usize
-    requires { Ready calendar.now tables.now row.now security × (length balances.now ≡ 8192) × (all small balances.now ≡ true)
-        × Free write buffer.old n (row_claims calendar.now tables.now day security balances.now (row_of index row.now)) }
-    ensures { Passed write buffer.old buffer.new n result
-        (row_claims calendar.now tables.now day security balances.now (row_of index row.now)) }
-{
-    let mut m = n;
-    let mut k: u8 = 0;
-    while k < 2 {
-        let a = 4096 * (k as usize) + 256 * (security as usize);
-        m = pass_tracking(
-            write,
-            buffer,
-            m,
-            calendar,
-            tables,
-            day,
-            LENDING + k,
-            security,
-            &balances[a..a + 256],
-            index,
-            row,
-        );
-        k += 1;
+    // The claims on a row, lending before repo.
+    fn pass_row(&self, write: bool, buffer: &mut [u8], n: usize, security: u8, row: Row) -> usize
+        requires { Ready security row × Free write buffer.old n (row_level self.now security row) }
+        ensures { Passed write buffer.old buffer.new n result (row_level self.now security row) }
+    {
+        let on_loan = 256 * security as usize;
+        let on_repo = 4096 + on_loan;
+        let lending = self.entry(ClaimType::Lending, security, row);
+        let repo = self.entry(ClaimType::Repo, security, row);
+        let m = lending.pass_tracking(write, buffer, n, &self.balances[on_loan..on_loan + 256]);
+        repo.pass_tracking(write, buffer, m, &self.balances[on_repo..on_repo + 256])
     }
-    m
-}
 
-// The claims on a row if the close crosses it.
-fn pass_turn(
-    write: bool,
-    buffer: &mut [u8],
-    n: usize,
-    calendar: &[u32],
-    tables: &[u32],
-    day: u32,
-    next: u32,
-    security: u8,
-    balances: &[u64],
-    index: u8,
-    row: &[u32],
-) -> usize
-    requires { Sound calendar.now tables.now day next security index row.now
-        × (length balances.now ≡ 8192) × (all small balances.now ≡ true)
-        × Free write buffer.old n (turn_claims calendar.now tables.now day next security balances.now (row_of index row.now)) }
-    ensures { Passed write buffer.old buffer.new n result
-        (turn_claims calendar.now tables.now day next security balances.now (row_of index row.now)) }
-{
-    let date = row[0];
-    if date <= day {
-        return n;
+    // The claims on a row if the close crosses it.
+    fn pass_turn(&self, write: bool, buffer: &mut [u8], n: usize, security: u8, row: Row) -> usize
+        requires { Sound self.now.calendar.now self.now.tables.now self.now.day self.now.next security row
+            × Free write buffer.old n (turn_level self.now security row) }
+        ensures { Passed write buffer.old buffer.new n result (turn_level self.now security row) }
+    {
+        if self.day < row.record_date && row.record_date <= self.next {
+            self.pass_row(write, buffer, n, security, row)
+        } else {
+            n
+        }
     }
-    if next < date {
-        return n;
-    }
-    pass_row(
-        write, buffer, n, calendar, tables, day, security, balances, index, row,
-    )
-}
 
-// The claims on a security's rows.
-fn pass_security(
-    write: bool,
-    buffer: &mut [u8],
-    n: usize,
-    calendar: &[u32],
-    tables: &[u32],
-    day: u32,
-    next: u32,
-    security: u8,
-    balances: &[u64],
-) -> usize
-    requires { SoundClose calendar.now tables.now day next × (security < 16)
-        × (length balances.now ≡ 8192) × (all small balances.now ≡ true)
-        × Free write buffer.old n (security_claims calendar.now tables.now day security balances.now) }
-    ensures { Passed write buffer.old buffer.new n result
-        (security_claims calendar.now tables.now day security balances.now) }
-{
-    let start = 114 * (security as usize) + 2;
-    let mut m = n;
-    let mut i: u8 = 0;
-    while i < 16 {
-        let a = start + 7 * (i as usize);
-        m = pass_turn(
-            write,
-            buffer,
-            m,
-            calendar,
-            tables,
-            day,
-            next,
-            security,
-            balances,
-            i,
-            &tables[a..a + 7],
-        );
-        i += 1;
+    // The claims on a security's rows.
+    fn pass_security(&self, write: bool, buffer: &mut [u8], n: usize, security: u8) -> usize
+        requires { (security < 16) × Free write buffer.old n (security_level self.now security) }
+        ensures { Passed write buffer.old buffer.new n result (security_level self.now security) }
+    {
+        let mut m = n;
+        for index in 0..ROWS {
+            m = self.pass_turn(write, buffer, m, security, self.tables.row(security, index));
+        }
+        m
     }
-    m
 }
 
 // The claims of a close of the day, in the order security, row, tracking, lender, borrower. It answers how many there are.
 pub fn pass_close(
     write: bool,
     buffer: &mut [u8],
-    calendar: &[u32],
-    tables: &[u32],
+    calendar: &Calendar<'_>,
+    tables: &Tables<'_>,
     day: u32,
     next: u32,
     balances: &[u64],
@@ -277,11 +168,16 @@ pub fn pass_close(
     ensures { Passed write buffer.old buffer.new 0 result
         (close_claims calendar.now tables.now day balances.now) }
 {
-    let mut m: usize = 0;
-    let mut s: u8 = 0;
-    while s < 16 {
-        m = pass_security(write, buffer, m, calendar, tables, day, next, s, balances);
-        s += 1;
+    let close = Close {
+        calendar,
+        tables,
+        day,
+        next,
+        balances,
+    };
+    let mut m = 0;
+    for security in 0..SECURITIES {
+        m = close.pass_security(write, buffer, m, security);
     }
     m
 }

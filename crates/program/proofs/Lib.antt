@@ -2,7 +2,6 @@ pub mod Opened
 pub mod Flags
 pub mod Steps
 pub mod Theorem
-pub mod Moves
 pub mod Coded
 pub mod Loop
 pub mod Rows

@@ -69,7 +69,13 @@ fn next_record(input: &[u8], ended: bool) -> Next
 }
 
 // The call that a record asks for, on a sound book.
-fn call(market: &Market<'_>, book: Book, balances: &mut [u64], message: &[u8], claims: &mut [u8]) -> Done
+fn call(
+    market: &Market<'_>,
+    book: Book,
+    balances: &mut [u64],
+    message: &[u8],
+    claims: &mut [u8],
+) -> Done
     requires { first_of (book_causes market.now.calendar market.now.tables book.day balances.old) ≡ 0 }
     ensures { Gives market.now.calendar market.now.tables book balances.old
         (call_with claims.old message.now) result claims.new balances.new }

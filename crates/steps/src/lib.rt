@@ -76,6 +76,7 @@ fn move_down(buf: &mut [u8], from: usize, n: usize)
 }
 
 // Whether the input has ended: it had before, or bytes were asked for and none came.
+#[tactic(auto, unfolding(program::specs::Steps::has_ended))]
 fn has_ended(held: Held, got: usize) -> bool
     ensures { result ≡ has_ended held got }
 {
@@ -83,6 +84,7 @@ fn has_ended(held: Held, got: usize) -> bool
 }
 
 // Whether the run is over: on a book that is not sound, after a 5, or at the end of the input with room left.
+#[tactic(auto, unfolding(program::specs::Steps::is_over))]
 fn is_over(s: Served, ended: bool) -> bool
     ensures { result ≡ is_over s ended }
 {
@@ -90,14 +92,14 @@ fn is_over(s: Served, ended: bool) -> bool
 }
 
 // What is held after a run of serve on have bytes.
+#[tactic(auto, unfolding(program::specs::Steps::held_after))]
 fn held_after(s: Served, ended: bool, have: usize) -> Held
     requires { s.consumed ≤ have }
     ensures { result ≡ held_after s ended have }
 {
     let over = is_over(s, ended);
-    let book = s.book;
     Held {
-        book,
+        book: s.book,
         left: have - s.consumed,
         written: s.written,
         ended,

@@ -13,6 +13,8 @@ use Rattle.lists.specs.Fields.{encode}
 use Rattle.lists.specs.Put.{put, put_start, put_put, put_length}
 use Rattle.std.proofs.Common.{Result as Wrote}
 use Rattle.records.specs.declared.Refusal.{Refusal}
+use Rattle.records.specs.declared.Refusal.TheVariants as refusal
+use Rattle.records.specs.Refusals.{refusal_number}
 use Rattle.records.specs.MessageRecords.{close_kind, answer_kind, size, record_bytes, reads, Writing, writing, wrote_number}
 use Rattle.records.proofs.Answers.{stored_record}
 use Rattle.securities.specs.Lent.{ones}
@@ -318,3 +320,8 @@ module _ (calendar tables : List ℕ) (book : Book) (balances buffer message : L
       ≡ result calendar tables book balances (call_with buffer message)
   unfolding call_with
   calls_transfer e = ap (result calendar tables book balances) (sym (cond_false _ _ e))
+
+-- the answer to what is no record
+pub message_number : refusal_number refusal.Message ≡ 5
+unfolding refusal_number
+message_number = refl

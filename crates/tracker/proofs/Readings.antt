@@ -1,5 +1,6 @@
 -- What the exported readers answer where a record is found and where it is refused, and the copy of a line of free text.
 use mathlib.Core.Path.{◌≡◌, refl, sym, ap, ◌∙◌}
+use mathlib.Core.Bool.{Bool, true, false}
 use mathlib.Core.List.{List}
 use Prim.Native.Nat.{ℕ, ◌+◌, ◌≤◌, ◌<◌}
 use native.Mathlib.Numerals.{add-one}
@@ -20,39 +21,13 @@ use Rattle.tracker.specs.declared.messages.ClaimReading.{ClaimReading}
 use Rattle.tracker.specs.declared.messages.AnswerReading.{AnswerReading}
 use Rattle.tracker.specs.Readings.{no_line, transfer_reading, claim_reading, answer_reading}
 
--- ---- a line copied in order
-
-pub record Copied (s : List ℕ) (at : ℕ) (line : List ℕ) (i : ℕ) : Type 0 where
-  pub small : i ≤ 64
-  pub sized : length line ≡ 64
-  pub stored : take i line ≡ take i (drop at s)
-
-pub copied_start : {s line : List ℕ} {at : ℕ} → length line ≡ 64 → Copied s at line 0
-copied_start l = record { small = omega arith; sized = l; stored = refl }
-
-pub copied_step : {s line : List ℕ} {at i : ℕ} → at + 64 ≤ length s → i < 64 → Copied s at line i
-    → Copied s at (set line i (get_or s (at + i) 0)) (i + 1)
-copied_step {s} {line} {at} {i} h l k =
-    record {
-      small = omega arith;
-      sized = length-set line i (get_or s (at + i) 0) ∙ k.sized;
-      stored = rw add-one
-          (take-suc-set line i (get_or s (at + i) 0) (omega (arith, k.sized))
-          ∙ rw (k.stored, ← get_or-drop at s i 0) (sym (take-suc (drop at s) i 0 (simp (length-drop) (omega arith)))));
-    }
-
-pub copied_end : {s line : List ℕ} {at i : ℕ} → 64 ≤ i → Copied s at line i → line ≡ part at 64 s
-copied_end {s} {line} {at} {i} h k =
-    let e : i ≡ 64 = omega (arith, k.small) in
-    sym (take-length line) ∙ ap (λ (n : ℕ). take n line) (k.sized ∙ sym e) ∙ k.stored ∙ ap (λ (n : ℕ). take n (drop at s)) e
-
 -- ---- the four kinds
 
 module _ (s : List ℕ) where
   pub transfer_read : {r : Option Transfer} {t : Transfer} {a b : List ℕ} → transfer_answer r ≡ reading transfer_kind s → r ≡ Some t
-      → a ≡ part 13 64 s → b ≡ part 77 64 s
+      → a ≡ first_line s → b ≡ second_line s
       → ◌≡◌ {A = TransferReading} (record { number = 0; transfer = t; first_line = a; second_line = b }) (transfer_reading s)
-  unfolding transfer_reading first_line second_line
+  unfolding transfer_reading
   transfer_read {r} {t} {a} {b} e q x y =
       let f = transfer_is s e q in
       (λ i. record { number = 0; transfer = f.same i; first_line = x i; second_line = y i }) ∙ sym (cond_true _ _ f.whole)
@@ -68,11 +43,11 @@ module _ (s : List ℕ) where
   unfolding transfer_reading no_line
   transfer_refused e q = sym (cond_false _ _ (transfer_not s e q))
 
-  pub close_read : {r : ReadClose} → close_answer r ≡ reading close_kind s → r ≡ Some → ◌≡◌ {A = ℕ} 0 (reading close_kind s).number
+  pub close_read : {b : Bool} → close_answer b ≡ reading close_kind s → b ≡ true → ◌≡◌ {A = ℕ} 0 (reading close_kind s).number
   unfolding close_answer
   close_read e q = ap (λ (x : Reading). x.number) (sym (ap close_answer q) ∙ e)
 
-  pub close_refused : {r : ReadClose} → close_answer r ≡ reading close_kind s → r ≡ None → ◌≡◌ {A = ℕ} 5 (reading close_kind s).number
+  pub close_refused : {b : Bool} → close_answer b ≡ reading close_kind s → b ≡ false → ◌≡◌ {A = ℕ} 5 (reading close_kind s).number
   unfolding close_answer
   close_refused e q = ap (λ (x : Reading). x.number) (sym (ap close_answer q) ∙ e)
 

@@ -5,6 +5,7 @@ ghost use Rattle.history.specs.Results.{Gives, left_open, opened};
 ghost use Rattle.carry_over.specs.CarriedOver.{carried};
 ghost use Rattle.marks.specs.Marks.{left_mark, marked, returned};
 
+use crate::messages::answered_number;
 use book::{Book, Done};
 
 // Opens a book on a day: its count and all balances become zero. Refused, with 1 to 4, it returns day 20000101 and count 0 and leaves
@@ -41,7 +42,7 @@ pub fn claim_tracker_set_mark(
 ) -> u16
     ensures { left_mark result store.new ≡ marked calendar.now book balances.now store.old mark }
 {
-    marks::set_mark(calendar, book, balances, store, mark)
+    answered_number(marks::set_mark(calendar, book, balances, store, mark))
 }
 
 // Goes back to a mark: it returns the book of the mark, and the balances become those of the mark. Refused, with 1, 2, 4, 16 or 17, it returns

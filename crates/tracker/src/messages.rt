@@ -101,6 +101,7 @@ pub fn claim_tracker_read_answer(message: &[u8]) -> AnswerReading
 }
 
 // The number for a call's outcome: 0, or that of its refusal.
+#[tactic(auto, unfolding(records::specs::Refusals::judged_number))]
 pub(crate) fn answered_number(outcome: Result<(), Refusal>) -> u16
     ensures { result ≡ judged_number outcome }
 {

@@ -110,12 +110,30 @@ fn try_transfer(
     let day = book.day;
     let count = book.count + 1;
     let rows = fails::recent_rows(&market.tables, limits, day, t, tag);
-    let n = fails::transfer_claims(false, claims, &market.calendar, &market.tables, day, count, t, rows);
+    let n = fails::transfer_claims(
+        false,
+        claims,
+        &market.calendar,
+        &market.tables,
+        day,
+        count,
+        t,
+        rows,
+    );
     if claims.len() < 35 * n {
         return Err(Refusal::Room);
     }
     loans::post(balances, t);
-    let m = fails::transfer_claims(true, claims, &market.calendar, &market.tables, day, count, t, rows);
+    let m = fails::transfer_claims(
+        true,
+        claims,
+        &market.calendar,
+        &market.tables,
+        day,
+        count,
+        t,
+        rows,
+    );
     Ok(Done {
         number: 0,
         book: Book { day, count },
@@ -160,13 +178,27 @@ pub fn transfer_with_limits(
         result claims.new balances.new }
 {
     match judging::judge_transfer(calendar, tables, limits, pieces, book.day, balances) {
-        Ok(lent) => transfer_lent(&lent.market, &lent.limits, &lent.pieces, book, balances, message, claims),
+        Ok(lent) => transfer_lent(
+            &lent.market,
+            &lent.limits,
+            &lent.pieces,
+            book,
+            balances,
+            message,
+            claims,
+        ),
         Err(refusal) => Done::refused(refusal, book),
     }
 }
 
 // The transfer of a sound book with the published numbers and ones as pieces: numbers 1 to 4 do not apply.
-pub fn transfer_sound(market: &Market<'_>, book: Book, balances: &mut [u64], message: &[u8], claims: &mut [u8]) -> Done
+pub fn transfer_sound(
+    market: &Market<'_>,
+    book: Book,
+    balances: &mut [u64],
+    message: &[u8],
+    claims: &mut [u8],
+) -> Done
     requires { first_of (book_causes market.now.calendar market.now.tables book.day balances.old) ≡ 0 }
     ensures { Gives market.now.calendar market.now.tables book balances.old
         (published_transfer ones (record { message = message.now; buffer = claims.old }))
@@ -174,7 +206,15 @@ pub fn transfer_sound(market: &Market<'_>, book: Book, balances: &mut [u64], mes
 {
     let numbers = MAXIMUM_NUMBERS;
     let ones = [1u32; 16];
-    transfer_lent(market, &Limits::of(&numbers), &Pieces::of(&ones), book, balances, message, claims)
+    transfer_lent(
+        market,
+        &Limits::of(&numbers),
+        &Pieces::of(&ones),
+        book,
+        balances,
+        message,
+        claims,
+    )
 }
 
 // The transfer of any book and pieces with the published numbers.

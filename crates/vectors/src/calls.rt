@@ -1,16 +1,20 @@
 // The vectors of single calls: calls.in holds the calls, calls.expected what they should give.
 // A line is written for each call that differs, with its place in the files counted from 0 and what differs, and for a file that does
 // not end with its last entry; then how many agree and how many differ.
+ghost use Rattle.std.specs.Prelude.{◌<◌, ◌^◌};
+
+use crate::forecasts;
 use crate::totals::Totals;
-use crate::{forecasts, totals};
-use book::{Book, Done};
-use call_files::entries::{Entry, Expected};
-use call_files::print;
-use check::same;
+use book::Done;
+use call_files::entries::{
+    Balances, Bytes, ClaimsEntry, Entry, Expected, ForecastEntry, WordsCall, WordsEntry, entry_at,
+};
+use call_files::{half_at, read_file};
+use std::fmt;
 use std::rt::Files;
 
 // Which parts of what a call gives differ from what it should give.
-#[derive(Clone, Copy)]
+#[derive(Clone, Copy, Default, PartialEq)]
 struct Differences {
     number: bool,
     day: bool,
@@ -22,321 +26,197 @@ struct Differences {
     figures: bool,
 }
 
-// Whether anything differs.
-fn differs(d: Differences) -> bool {
-    if d.number {
-        return true;
-    }
-    if d.day {
-        return true;
-    }
-    if d.count {
-        return true;
-    }
-    if d.claims {
-        return true;
-    }
-    if d.balances {
-        return true;
-    }
-    if d.buffer {
-        return true;
-    }
-    if d.words {
-        return true;
-    }
-    d.figures
-}
-
-// Writes a word where a part differs.
-fn print_word(rt: &impl Print, is_different: bool, word: &[u8]) {
-    if is_different {
-        print(rt, word);
+// The words of the parts that differ.
+impl fmt::Display for Differences {
+    fn fmt<W: fmt::Write>(&self, f: &mut fmt::Formatter<W>) -> fmt::Result {
+        let parts = [
+            (self.number, "number"),
+            (self.day, "day"),
+            (self.count, "count"),
+            (self.claims, "claims"),
+            (self.balances, "balances"),
+            (self.buffer, "buffer"),
+            (self.words, "words"),
+            (self.figures, "figures"),
+        ];
+        for (differs, word) in parts {
+            if differs {
+                write!(f, " {word}")?;
+            }
+        }
+        Ok(())
     }
 }
 
-// Writes the line of a call that differs.
-fn print_differences(rt: &impl Print, index: u32, d: Differences) {
-    print(rt, b"call");
-    call_files::print_field(rt, index as u64);
-    print(rt, b" differs:");
-    print_word(rt, d.number, b" number");
-    print_word(rt, d.day, b" day");
-    print_word(rt, d.count, b" count");
-    print_word(rt, d.claims, b" claims");
-    print_word(rt, d.balances, b" balances");
-    print_word(rt, d.buffer, b" buffer");
-    print_word(rt, d.words, b" words");
-    print_word(rt, d.figures, b" figures");
-    call_files::print_end(rt);
-}
-
-// Fills a call's arguments.
-fn load(
-    s: &[u8],
-    call: Entry,
-    calendar: &mut [u32],
-    tables: &mut [u32],
-    balances: &mut [u64],
-    claims: &mut [u8],
-    words: &mut [u64],
-) {
-    call_files::words_at(s, call.calendar, calendar);
-    call_files::words_at(s, call.tables, tables);
-    call_files::entries::balances_at(s, call.balances, balances);
-    call_files::bytes_at(s, call.buffer, claims);
-    call_files::entries::balances_at(s, call.words, words);
-}
-
-// Makes a call on its arguments. The balances of a carry over are the saved ones; it writes the words. The words of a mark are the store.
-fn make(
-    s: &[u8],
-    call: Entry,
-    calendar: &[u32],
-    tables: &[u32],
-    balances: &mut [u64],
-    claims: &mut [u8],
-    words: &mut [u64],
-) -> Done {
-    let message = call_files::part(s, call.message, call.message_length);
-    let book = Book {
-        day: call.day,
-        count: call.count,
-    };
-    if call_files::is_carry_over(call.kind) {
-        return carry_over::carry_over(calendar, book, balances, words);
-    }
-    if call_files::is_mark(call.kind) {
-        return call_files::mark_call(call.kind, calendar, book, balances, words, call.mark);
-    }
-    call_files::call(
-        call.kind, s, call.lists, calendar, tables, book, balances, message, claims,
-    )
-}
-
-// Fills a call's arguments and makes it.
-fn run_call(
-    s: &[u8],
-    call: Entry,
-    calendar: &mut [u32],
-    tables: &mut [u32],
-    balances: &mut [u64],
-    claims: &mut [u8],
-    words: &mut [u64],
-) -> Done {
-    load(s, call, calendar, tables, balances, claims, words);
-    make(s, call, calendar, tables, balances, claims, words)
+// Buffers that hold the arguments of any call, and the words that it should leave.
+#[derive(Drop)]
+struct Buffers {
+    calendar: [u32; 512],
+    tables: [u32; 1856],
+    balances: [u64; 8224],
+    claims: [u8; 16384],
+    words: [u64; 32812],
+    left: [u64; 32812],
 }
 
 // Whether a claim buffer is the one that stands in a file, length and bytes.
-fn same_buffer(claims: &[u8], t: &[u8], expected: Expected) -> bool {
-    if claims.len() != expected.buffer_length {
-        return false;
-    }
-    same(
-        claims,
-        call_files::part(t, expected.buffer, expected.buffer_length),
-    )
+fn same_bytes(claims: &[u8], t: &[u8], expected: Bytes) -> bool {
+    claims.len() == expected.length && claims == expected.of(t)
 }
 
-// Whether words are the n that stand at a place of a file; `left`, of that length, gets the words of the file.
-fn same_words(words: &[u64], t: &[u8], at: usize, n: usize, left: &mut [u64]) -> bool {
-    if words.len() != n {
-        return false;
-    }
-    call_files::entries::balances_at(t, at, left);
-    call_files::same_balances(words, left)
+// Whether words are those that stand in a file, in number and value; `left` gets the words of the file.
+fn same_words(words: &[u64], t: &[u8], expected: Balances, left: &mut [u64]) -> bool {
+    words.len() == expected.count(t) && words == &*expected.read(t, left)
 }
 
-// The same with a buffer that may be longer.
-fn same_run(words: &[u64], t: &[u8], at: usize, n: usize, left: &mut [u64]) -> bool {
-    let e = call_files::fitting_balances(n, left);
-    same_words(words, t, at, n, &mut left[..e])
-}
-
-// What differs between what a call gave and left and what it should.
+// What differs between what a call answered and the balances that it left and what it should.
 fn compare(
     done: Done,
     balances: &[u64],
-    claims: &[u8],
-    words: &[u64],
     t: &[u8],
     expected: Expected,
     left: &mut [u64],
 ) -> Differences {
     Differences {
         number: done.number != expected.number,
-        day: done.book.day != expected.day,
-        count: done.book.count != expected.count,
-        claims: done.claims != expected.claims as usize,
-        balances: !same_run(balances, t, expected.balances, expected.balance_words, left),
-        buffer: !same_buffer(claims, t, expected),
-        words: !same_run(words, t, expected.words, expected.word_count, left),
-        figures: false,
+        day: done.book.day != expected.book.day,
+        count: done.book.count != expected.book.count,
+        claims: done.claims != expected.claims,
+        balances: !same_words(balances, t, expected.balances, left),
+        ..Differences::default()
     }
 }
 
-// Makes a call and compares what it gives.
-fn try_call(
+// Makes a call that is lent tables. Answers what differs from what it should give, which stands at a place of a file, and the place behind
+// that; so do the next three.
+fn try_claims(
     s: &[u8],
-    call: Entry,
+    entry: ClaimsEntry,
     t: &[u8],
-    expected: Expected,
-    calendar: &mut [u32],
-    tables: &mut [u32],
-    balances: &mut [u64],
-    claims: &mut [u8],
-    words: &mut [u64],
-    left: &mut [u64],
-) -> Differences {
-    let done = run_call(s, call, calendar, tables, balances, claims, words);
-    compare(done, balances, claims, words, t, expected, left)
+    place: usize,
+    buffers: &mut Buffers,
+) -> (Differences, usize) {
+    let calendar = entry.calendar.read(s, &mut buffers.calendar);
+    let tables = entry.tables.read(s, &mut buffers.tables);
+    let balances = entry.balances.read(s, &mut buffers.balances);
+    let claims = entry.buffer.read(s, &mut buffers.claims);
+    let ClaimsEntry {
+        call,
+        book,
+        message,
+        ..
+    } = entry;
+    let done = call.make(s, calendar, tables, book, balances, message, claims);
+    let expected = Expected::at(t, place);
+    let bytes = Bytes::at(t, expected.next(t));
+    let differences = Differences {
+        buffer: !same_bytes(claims, t, bytes),
+        ..compare(done, balances, t, expected, &mut buffers.left)
+    };
+    (differences, bytes.next())
 }
 
-// Makes a forecast and compares what it gives.
-fn try_forecast(s: &[u8], call: Entry, t: &[u8], expected: Expected) -> Differences {
-    let run = call_files::part(s, call.message, call.message_length);
-    let f = forecasts::answer(run, call.account, call.day);
-    Differences {
-        number: f.number != expected.number,
-        day: false,
-        count: false,
-        claims: false,
-        balances: false,
-        buffer: false,
-        words: false,
-        figures: !forecasts::same_figures(f, t, expected.figures),
-    }
+// Makes a call on words.
+fn try_words(
+    s: &[u8],
+    entry: WordsEntry,
+    t: &[u8],
+    place: usize,
+    buffers: &mut Buffers,
+) -> (Differences, usize) {
+    let book = entry.book;
+    let calendar = entry.calendar.read(s, &mut buffers.calendar);
+    let balances = entry.balances.read(s, &mut buffers.balances);
+    let words = entry.words.read(s, &mut buffers.words);
+    let done = match entry.call {
+        WordsCall::CarryOver => carry_over::carry_over(calendar, book, balances, words),
+        WordsCall::Mark(call, mark) => call.make(calendar, book, balances, words, mark),
+    };
+    let expected = Expected::at(t, place);
+    let stored = Balances(expected.next(t));
+    let differences = Differences {
+        words: !same_words(words, t, stored, &mut buffers.left),
+        ..compare(done, balances, t, expected, &mut buffers.left)
+    };
+    (differences, stored.next(t))
 }
 
-// Lends a call the parts of the buffers that it names, and compares what it gives.
+// Makes a forecast.
+fn try_forecast(entry: ForecastEntry, t: &[u8], place: usize) -> (Differences, usize) {
+    let (number, bits) = forecasts::answer(entry.run, entry.account, entry.date);
+    let differences = Differences {
+        number: number != half_at(t, place),
+        figures: bits != forecasts::bits_at(t, place.saturating_add(2)),
+        ..Differences::default()
+    };
+    (differences, place.saturating_add(26))
+}
+
+// Makes a call with the arguments of a file.
 fn try_entry(
     s: &[u8],
-    call: Entry,
+    entry: Entry,
     t: &[u8],
-    expected: Expected,
-    calendar: &mut [u32],
-    tables: &mut [u32],
-    balances: &mut [u64],
-    claims: &mut [u8],
-    words: &mut [u64],
-    left: &mut [u64],
-) -> Differences {
-    if call_files::is_forecast(call.kind) {
-        return try_forecast(s, call, t, expected);
+    place: usize,
+    buffers: &mut Buffers,
+) -> (Differences, usize) {
+    match entry {
+        Entry::Claims(entry) => try_claims(s, entry, t, place, buffers),
+        Entry::Words(entry) => try_words(s, entry, t, place, buffers),
+        Entry::Forecast(entry) => try_forecast(entry, t, place),
     }
-    let c = call_files::fitting_words(call.calendar_words, calendar);
-    let n = call_files::fitting_words(call.table_words, tables);
-    let b = call_files::fitting_balances(call.balance_words, balances);
-    let k = call_files::fitting(call.buffer_length, claims);
-    let w = call_files::fitting_balances(call.word_count, words);
-    try_call(
-        s,
-        call,
-        t,
-        expected,
-        &mut calendar[..c],
-        &mut tables[..n],
-        &mut balances[..b],
-        &mut claims[..k],
-        &mut words[..w],
-        left,
-    )
 }
 
-// The totals with one more call.
-fn counted(rt: &impl Print, totals: Totals, index: u32, d: Differences) -> Totals {
-    if differs(d) {
-        print_differences(rt, index, d);
-        return totals::with(totals, false);
+// Counts one that differs for a file that does not end with its last entry.
+fn count_end(rt: &impl Print, totals: &mut Totals, ends: bool, file: &str) {
+    if !ends {
+        let _ = println!(rt; "{file} does not end with its last entry");
+        totals.count(false);
     }
-    totals::with(totals, true)
-}
-
-// The totals where the files end: one more that differs for a file that does not end with its last entry.
-fn ended(rt: &impl Print, totals: Totals, at: usize, length: usize, file: &[u8]) -> Totals {
-    if at == length {
-        return totals;
-    }
-    print(rt, file);
-    print(rt, b" does not end with its last entry\n");
-    totals::with(totals, false)
 }
 
 // Tries the calls of a file, one after another. A proved loop has to end, so it counts them, up to more than a file holds.
-fn try_all(
-    rt: &impl Print,
-    s: &[u8],
-    t: &[u8],
-    calendar: &mut [u32; 512],
-    tables: &mut [u32; 1856],
-    balances: &mut [u64; 8224],
-    claims: &mut [u8; 16384],
-    words: &mut [u64; 32812],
-    left: &mut [u64; 32812],
-) -> Totals {
-    let mut totals = totals::none();
+fn try_all(rt: &impl Print, s: &[u8], t: &[u8], buffers: &mut Buffers) -> Totals {
+    let mut totals = Totals::default();
     let mut at: usize = 0;
     let mut place: usize = 0;
-    let mut index: u32 = 0;
-    while index < 4294967295 {
+    for index in 0..u32::MAX {
         if s.len() <= at {
             break;
         }
-        let call = call_files::entries::entry_at(s, at);
-        let expected = call_files::entries::expected_at(call.kind, t, place);
-        let d = try_entry(
-            s, call, t, expected, calendar, tables, balances, claims, words, left,
-        );
-        totals = counted(rt, totals, index, d);
-        at = call.lists.next;
-        place = expected.next;
-        index += 1;
+        let (entry, next) = entry_at(s, at);
+        let (differences, next_place) = try_entry(s, entry, t, place, buffers);
+        let agrees = differences == Differences::default();
+        if !agrees {
+            let _ = println!(rt; "call {index} differs:{differences}");
+        }
+        totals.count(agrees);
+        at = next;
+        place = next_place;
     }
-    let totals = ended(rt, totals, at, s.len(), b"calls.in");
-    ended(rt, totals, place, t.len(), b"calls.expected")
+    count_end(rt, &mut totals, at == s.len(), "calls.in");
+    count_end(rt, &mut totals, place == t.len(), "calls.expected");
+    totals
 }
 
-// Tries the calls of a file with buffers that hold their arguments.
-fn try_file(rt: &impl Print, s: &[u8], t: &[u8]) -> Totals {
-    let mut calendar = [0u32; 512];
-    let mut tables = [0u32; 1856];
-    let mut balances = [0u64; 8224];
-    let mut claims = [0u8; 16384];
-    let mut words = [0u64; 32812];
-    let mut left = [0u64; 32812];
-    try_all(
-        rt,
-        s,
-        t,
-        &mut calendar,
-        &mut tables,
-        &mut balances,
-        &mut claims,
-        &mut words,
-        &mut left,
-    )
-}
-
-// Reads the two files and tries the calls.
-fn try_stored(rt: &(impl Files + Print + Eprint + Alloc), calls: &mut [u8], expected: &mut [u8]) {
-    let n = call_files::read_file(rt, b"calls.in", calls);
-    let m = call_files::read_file(rt, b"calls.expected", expected);
-    totals::print_totals(rt, try_file(rt, &calls[..n], &expected[..m]), b" calls");
-}
-
-// The same with whole buffers. The arrays are handed on by reference first, so that their elements stay out of the proofs.
-fn try_whole(
+// Tries the stored calls, files of up to CALLS and EXPECTED bytes, and writes how many agree.
+pub fn try_calls<const CALLS: usize, const EXPECTED: usize>(
     rt: &(impl Files + Print + Eprint + Alloc),
-    calls: &mut [u8; 2621440],
-    expected: &mut [u8; 262144],
-) {
-    try_stored(rt, calls, expected);
-}
-
-// Tries the stored calls and writes how many agree.
-pub fn try_calls(rt: &(impl Files + Print + Eprint + Alloc)) {
-    let mut calls = [0u8; 2621440];
-    let mut expected = [0u8; 262144];
-    try_whole(rt, &mut calls, &mut expected);
+)
+    requires calls { CALLS < 2 ^ 63 }
+    requires expected { EXPECTED < 2 ^ 63 }
+{
+    let mut calls = [0u8; CALLS];
+    let mut expected = [0u8; EXPECTED];
+    let calls = read_file(rt, "calls.in", &mut calls);
+    let expected = read_file(rt, "calls.expected", &mut expected);
+    let mut buffers = Buffers {
+        calendar: [0; 512],
+        tables: [0; 1856],
+        balances: [0; 8224],
+        claims: [0; 16384],
+        words: [0; 32812],
+        left: [0; 32812],
+    };
+    try_all(rt, calls, expected, &mut buffers).print(rt, "calls");
 }

@@ -1,41 +1,22 @@
 // Forecasts as bits: a double is compared with the stored one by its bits, so that a zero with a sign is another double.
-ghost use Rattle.std.specs.Prelude.{not, T};
-ghost use Rattle.std.specs.Float.Ieee.{is_nan};
+use call_files::double_at;
 
-// What a forecast gives, each double as its bits.
-#[derive(Clone, Copy)]
-pub struct Bits {
-    pub number: u16,
-    pub pay: u64,
-    pub receive: u64,
-    pub difference: u64,
-}
-
-// The bits of a double.
-fn bits_of(x: f64) -> u64
-    requires { T (not (is_nan x)) }
-{
-    f64::to_bits(x)
-}
-
-// Makes a forecast.
-pub fn answer(run: &[u8], account: u32, date: u32) -> Bits {
+// Makes a forecast, and answers its number and the bits of its doubles: what is to be paid, what is to be received, and the difference.
+pub fn answer(run: &[u8], account: u32, date: u32) -> (u16, [u64; 3]) {
     let f = forecast::forecast(run, account, date);
-    Bits {
-        number: f.number,
-        pay: bits_of(f.cash.pay),
-        receive: bits_of(f.cash.receive),
-        difference: bits_of(f.cash.difference),
-    }
+    let bits = [
+        f.cash.pay.to_bits(),
+        f.cash.receive.to_bits(),
+        f.cash.difference.to_bits(),
+    ];
+    (f.number, bits)
 }
 
-// Whether the doubles of a forecast are the three that stand at a place of a file.
-pub fn same_figures(f: Bits, t: &[u8], at: usize) -> bool {
-    if f.pay != call_files::double_at(t, at) {
-        return false;
-    }
-    if f.receive != call_files::double_at(t, call_files::plus(at, 8)) {
-        return false;
-    }
-    f.difference == call_files::double_at(t, call_files::plus(at, 16))
+// The bits of the three doubles at a place of a file.
+pub fn bits_at(t: &[u8], at: usize) -> [u64; 3] {
+    [
+        double_at(t, at),
+        double_at(t, at.saturating_add(8)),
+        double_at(t, at.saturating_add(16)),
+    ]
 }

@@ -7,6 +7,6 @@ mod streams;
 mod totals;
 
 fn main(rt: HostRuntime) {
-    calls::try_calls(&rt);
-    streams::try_streams(&rt);
+    calls::try_calls::<2621440, 262144>(&rt);
+    streams::try_streams::<1310720, 131072>(&rt);
 }

@@ -1,45 +1,25 @@
 // How many vectors agree and how many differ.
-use call_files::print;
 
 // Both counts, each up to the largest number.
-#[derive(Clone, Copy)]
+#[derive(Clone, Copy, Default)]
 pub struct Totals {
-    pub agree: u32,
-    pub differ: u32,
+    agree: u32,
+    differ: u32,
 }
 
-// One more, up to the largest number.
-fn more(n: u32) -> u32 {
-    if n < 4294967295 { n + 1 } else { n }
-}
-
-// No vector is tried yet.
-pub fn none() -> Totals {
-    Totals {
-        agree: 0,
-        differ: 0,
+impl Totals {
+    // Counts one more vector.
+    pub fn count(&mut self, agrees: bool) {
+        if agrees {
+            self.agree = self.agree.saturating_add(1);
+        } else {
+            self.differ = self.differ.saturating_add(1);
+        }
     }
-}
 
-// The totals with one more vector.
-pub fn with(totals: Totals, agrees: bool) -> Totals {
-    if agrees {
-        return Totals {
-            agree: more(totals.agree),
-            differ: totals.differ,
-        };
+    // Writes how many vectors agree and how many differ; a word names what they are.
+    pub fn print(self, rt: &impl Print, what: &str) {
+        let Totals { agree, differ } = self;
+        let _ = println!(rt; "{agree} {what} agree, {differ} differ");
     }
-    Totals {
-        agree: totals.agree,
-        differ: more(totals.differ),
-    }
-}
-
-// Writes how many vectors agree and how many differ; words name what they are.
-pub fn print_totals(rt: &impl Print, totals: Totals, words: &[u8]) {
-    call_files::print_number(rt, totals.agree as u64);
-    print(rt, words);
-    print(rt, b" agree,");
-    call_files::print_field(rt, totals.differ as u64);
-    print(rt, b" differ\n");
 }

@@ -1,14 +1,22 @@
 -- A number of the causes 1 to 4 refuses the call; else the book is sound.
-use Rattle.history.specs.Calls.{buffer_of, close}
+use Rattle.records.proofs.Refusals.{judged_is, judged_none}
+use Rattle.history.specs.Calls.{Arguments, buffer_of, close}
 use Rattle.history.specs.Causes.{sound_causes}
-use Rattle.history.proofs.Answers.{answers_refused, book_refuses}
-use borrow.Author.Rules.{rules}
+use Rattle.history.proofs.Answers.{refused_first}
 use Rattle.closes.proofs.close.Goals as goal
 
-pub returns-then-number-ne0 : goal.returns-then-number-ne0
+pub close_sound-requires : goal.close_sound-requires
+close_sound-requires c =
+    let v = c.in-Ok.ensures.value in
+    rw (v.0, v.1) (judged_none c.judge_book.ensures.number c.in-Ok.is)
+
+pub returns-in-Ok : goal.returns-in-Ok
+returns-in-Ok c = let v = c.in-Ok.ensures.value in rw (v.0, v.1) at c.close_sound.ensures
+
+pub returns-in-Err : goal.returns-in-Err
 unfolding buffer_of sound_causes
-returns-then-number-ne0 c =
+returns-in-Err c =
     let a = c.args in
-    let k = close (record { message = a.message.now; buffer = a.claims.now }) in
+    let asked : Arguments = record { message = a.message.now; buffer = a.claims.now } in
     rw c.refused.ensures
-    (answers_refused a.calendar.now a.tables.now a.book a.balances.now k _ (book_refuses a.calendar.now a.tables.now a.book a.balances.now k _ c.book_number-number.ensures c.if-number-ne0.true) c.if-number-ne0.true)
+    (refused_first a.calendar.now a.tables.now a.book a.balances.now (close asked) _ (judged_is c.judge_book.ensures.number c.in-Err.is))

@@ -1,18 +1,18 @@
-use Rattle.claims.proofs.RowLoops.{reach_start, reach_empty, reach_later, reach_next, reach_end}
-use borrow.Author.Rules.{rules}
+-- The search finds the first row that is not reached.
+use Rattle.std.proofs.Common.{◌≡◌, ℕ, true, false, ◌∙◌, rules, tests}
+use Rattle.std.proofs.lemmas.Iterator.{first_from_Range}
+use Rattle.claims.specs.Reached.{row_at, is_reached}
+use Rattle.claims.proofs.RowLoops.{reach_found}
+use Rattle.fails.specs.Recent.{column}
 use Rattle.fails.proofs.reached_rows.Goals as goal
 
-pub loop-i-init : goal.loop-i-init
-loop-i-init c = reach_start _ _ _ _ _ (search rules)
-
-pub returns-then-date-eq0 : goal.returns-then-date-eq0
-returns-then-date-eq0 c = reach_empty c.loop-i.invariant (search rules) (search rules) c.if-date-eq0.true
-
-pub returns-then-day-date : goal.returns-then-day-date
-returns-then-day-date c = reach_later c.loop-i.invariant (search rules) (search rules) c.if-day-date.true
-
-pub loop-i-preserved : goal.loop-i-preserved
-loop-i-preserved c = reach_next c.loop-i.invariant (search rules) (search rules) c.if-date-eq0.false c.if-day-date.false
-
 pub returns : goal.returns
-returns c = reach_end c.loop-i.invariant c.loop-i-test.false
+returns c =
+    let a = c.args in
+    c.unwrap_or.ensures ∙ reach_found _ _ _ _ _ _ c.requires.1
+    (first_from_Range _ _ _ _
+    (λ (i : ℕ). is_reached (column a.by) a.day (row_at a.tables.now a.security i) ≡ false)
+    (λ (i : ℕ). is_reached (column a.by) a.day (row_at a.tables.now a.security i) ≡ true)
+    c.find.ensures.ran
+    (λ x q k. search (rules, tests))
+    (λ x q k. (search rules, search (rules, tests))))

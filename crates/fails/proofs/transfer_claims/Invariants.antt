@@ -1,13 +1,6 @@
--- The loop keeps that the pass over the first j rows is made.
-use Prim.Native.Nat.{◌+◌, ◌-◌}
-use Rattle.claims.specs.Reached.{row_at}
-use Rattle.claims.proofs.RowLoops.{Passing}
-use Rattle.fails.specs.Recent.{due_claim}
+-- The loop keeps that the claims on the rows from the first one up to the index are passed.
+use Rattle.fails.proofs.Turns.{Rows}
 use Rattle.fails.proofs.transfer_claims.Given as goal
 
-abbrev pub invariant-loop-j : goal.invariant-loop-j
-invariant-loop-j l =
-    Passing l.write l.initial.buffer l.buffer (λ k. due_claim l.calendar l.tables l.day l.number l.t l.rows (row_at l.tables l.t.security (l.first + k))) l.count l.j l.n
-
-abbrev pub decreases-loop-j : goal.decreases-loop-j
-decreases-loop-j l = l.count - l.j
+abbrev pub invariant-loop-index : goal.invariant-loop-index
+invariant-loop-index l = Rows l.calendar l.tables l.day l.number l.t l.rows l.write l.initial.buffer l.buffer l.n l.index

@@ -1,34 +1,28 @@
-use mathlib.Core.Path.{sym, ap, ◌∙◌, subst⁻¹}
-use Prim.Native.Nat.{ℕ, ◌≤◌}
-use Rattle.claims.specs.Fails.{is_mbs}
+-- Of other types no row waits; of MBS the search finds the first that does.
+use Rattle.std.proofs.Common.{◌≡◌, ℕ, ◌≤◌, true, false, sym, ◌∙◌, rules, tests}
+use Rattle.std.proofs.lemmas.Iterator.{first_from_Range, serves_from_Range}
+use Rattle.claims.specs.Reached.{row_at, is_waiting}
 use Rattle.claims.proofs.Reached.{few_reached}
-use Rattle.claims.proofs.RowLoops.{seek_start, seek_found, seek_next, seek_end, waiting_other, waiting_mbs}
-use borrow.Author.Rules.{rules}
+use Rattle.claims.proofs.RowLoops.{seek_first, waiting_other, waiting_mbs}
 use Rattle.fails.proofs.waiting_row.Goals as goal
 
 pub returns-then-not-is_mbs : goal.returns-then-not-is_mbs
-returns-then-not-is_mbs c =
-    waiting_other _ _ _ _ _ c.requires.3
-    (sym (c.is_mbs.ensures ∙ ap is_mbs c.security_type.ensures) ∙ c.if-not-is_mbs.true)
+returns-then-not-is_mbs c = waiting_other _ _ _ _ _ c.requires.2 (sym c.is_mbs.ensures ∙ c.if-not-is_mbs.true)
 
-pub loop-i-init : goal.loop-i-init
-loop-i-init c =
-    let few = subst⁻¹ (λ (k : ℕ). k ≤ 16) c.requires.3 (few_reached _ _ _) in
-    seek_start _ _ _ _ _ _ c.requires.2 few
-
-pub returns-then-is_waiting : goal.returns-then-is_waiting
-returns-then-is_waiting c =
-    let s = c in
-    waiting_mbs _ _ _ _ _ s.requires.3
-    (sym (s.is_mbs.ensures ∙ ap is_mbs s.security_type.ensures) ∙ s.if-not-is_mbs.false)
-    (seek_found _ _ _ _ c.loop-i.invariant (search rules) c.is_waiting.ensures c.if-is_waiting.true)
-
-pub loop-i-preserved : goal.loop-i-preserved
-loop-i-preserved c = seek_next _ _ _ _ c.loop-i.invariant (search rules) c.is_waiting.ensures c.if-is_waiting.false
+pub find-requires-clause-callable : goal.find-requires-clause-callable
+find-requires-clause-callable c =
+    let few : c.args.reached ≤ 16 = rw c.requires.2 (few_reached _ _ _) in
+    serves_from_Range (λ x q k. search (rules, tests)) (λ x low high. search rules)
 
 pub returns : goal.returns
 returns c =
-    let s = c in
-    waiting_mbs _ _ _ _ _ s.requires.3
-    (sym (s.is_mbs.ensures ∙ ap is_mbs s.security_type.ensures) ∙ s.if-not-is_mbs.false)
-    (seek_end _ _ _ _ c.loop-i.invariant c.loop-i-test.false)
+    let a = c.args in
+    let few : a.reached ≤ 16 = rw c.requires.2 (few_reached _ _ _) in
+    waiting_mbs _ _ _ _ _ c.requires.2 (sym c.is_mbs.ensures ∙ c.if-not-is_mbs.false)
+    (c.unwrap_or.ensures ∙ seek_first _ _ _ _ _ _ _ c.requires.1 few
+    (first_from_Range _ _ _ _
+    (λ (i : ℕ). is_waiting a.contract a.day (row_at a.tables.now a.security i) ≡ true)
+    (λ (i : ℕ). is_waiting a.contract a.day (row_at a.tables.now a.security i) ≡ false)
+    c.find.ensures.ran
+    (λ x q k. search (rules, tests))
+    (λ x q k. (search rules, search (rules, tests)))))

@@ -15,6 +15,3 @@ month_word-requires c = (search rules, at_most _ _ c.month_length-length.ensures
 
 pub overflow_add-weekday : goal.overflow_add-weekday
 overflow_add-weekday c = record { fits = omega (arith, at_most _ _ c.month_length-length.ensures (omega arith)) }
-
-pub loop-m-preserved : goal.loop-m-preserved
-loop-m-preserved c = (omega arith, search rules)

@@ -2,15 +2,14 @@
 use mathlib.Core.Path.{◌∙◌}
 use Rattle.records.proofs.Answers.{close_is, close_not}
 use Rattle.stream.proofs.Records.{calls_close, calls_transfer}
-use borrow.Author.Rules.{rules}
 use Rattle.serving.proofs.call.Goals as goal
 
-pub returns-in-Is : goal.returns-in-Is
-returns-in-Is c =
+pub returns-then-read_close : goal.returns-then-read_close
+returns-then-read_close c =
     let a = c.args in
-    c.close_sound.ensures ∙ calls_close _ _ _ _ a.claims.now a.message.now (close_is _ c.read_close.ensures c.in-Is.is)
+    c.close_sound.ensures ∙ calls_close _ _ _ _ a.claims.now a.message.now (close_is _ c.read_close.ensures c.if-read_close.true)
 
-pub returns : goal.returns
-returns c =
+pub returns-else-read_close : goal.returns-else-read_close
+returns-else-read_close c =
     let a = c.args in
-    c.transfer_sound.ensures ∙ calls_transfer _ _ _ _ a.claims.now a.message.now (close_not _ c.read_close.ensures c.in_default.is)
+    c.transfer_sound.ensures ∙ calls_transfer _ _ _ _ a.claims.now a.message.now (close_not _ c.read_close.ensures c.if-read_close.false)

@@ -1,4 +1,5 @@
-use mathlib.Core.Path.{sym, ◌∙◌}
+use mathlib.Core.Path.{◌≡◌, sym, ◌∙◌}
+use Rattle.stream.proofs.Records.{message_number}
 use Prim.Native.Nat.{◌-◌}
 use lib.ListN.{length}
 use Rattle.stream.proofs.Runs.{Going, going_start, going_waits, going_ends, going_full, going_again, size_fits, written_fits, going_words}
@@ -13,7 +14,10 @@ pub returns-in-Waiting : goal.returns-in-Waiting
 returns-in-Waiting c = going_waits _ _ _ _ _ _ _ c.loop-output.invariant (sym c.in-Waiting.is ∙ c.next_record.ensures) _ c.sound_run.ensures
 
 pub returns-in-Wrong : goal.returns-in-Wrong
-returns-in-Wrong c = going_ends _ _ _ _ _ _ _ c.loop-output.invariant c.loop-output-test.true (sym c.in-Wrong.is ∙ c.next_record.ensures) _ c.sound_run-in-Wrong.ensures c.put_answer.ensures
+returns-in-Wrong c =
+    let five : c.number.result ≡ 5 = c.number.ensures ∙ message_number in
+    going_ends _ _ _ _ _ _ _ c.loop-output.invariant c.loop-output-test.true (sym c.in-Wrong.is ∙ c.next_record.ensures) _ c.sound_run-in-Wrong.ensures
+    (rw five at c.put_answer.ensures)
 
 pub overflow_add-at : goal.overflow_add-at
 overflow_add-at c = let k = size_fits _ _ _ _ _ _ _ c.loop-output.invariant (sym c.in-Record.is ∙ c.next_record.ensures) in search rules

@@ -13,12 +13,12 @@ use Rattle.serving.proofs.work.Goals.{After-call-done}
 abbrev Kept : After-call-done → Type 0
 Kept c =
     let a = c.args in
-    Leaves a.calendar.now a.tables.now a.book a.balances.now a.message.now a.output.now c.requires.1 a.room c.call-done.result c.call-done.new.claims c.call-done.new.balances
+    Leaves a.market.now.calendar a.market.now.tables a.book a.balances.now a.message.now a.output.now c.requires.1 a.room c.call-done.result c.call-done.new.claims c.call-done.new.balances
 
 kept : (c : After-call-done) → Kept c
 kept c =
     let a = c.args in
-    leaves a.calendar.now a.tables.now a.book a.balances.now a.message.now a.output.now c.requires.1 _ _ _ a.room c.requires.2 c.call-done.ensures
+    leaves a.market.now.calendar a.market.now.tables a.book a.balances.now a.message.now a.output.now c.requires.1 _ _ _ a.room c.requires.2 c.call-done.ensures
 
 pub slice_bounds-call-end-2 : goal.slice_bounds-call-end-2
 slice_bounds-call-end-2 c =

@@ -1,10 +1,12 @@
 -- The size is judged, then the opening.
+use Rattle.records.specs.Refusals.{refusal_number}
 use Rattle.program.proofs.Coded.{begins_refused, begins_opened, begins_number}
 use borrow.Author.Rules.{rules}
 use Rattle.steps.proofs.begin.Goals as goal
 
 pub returns-then-file-ne-BOOK_BYTES : goal.returns-then-file-ne-BOOK_BYTES
-returns-then-file-ne-BOOK_BYTES c = begins_refused _ _ _ _ _ c.if-file-ne-BOOK_BYTES.true _ _ c.refuse.ensures
+unfolding refusal_number
+returns-then-file-ne-BOOK_BYTES c = begins_refused _ _ _ _ _ c.if-file-ne-BOOK_BYTES.true _ _ (rw c.number.ensures at c.refuse.ensures)
 
 pub returns-then-done-ne0 : goal.returns-then-done-ne0
 returns-then-done-ne0 c =

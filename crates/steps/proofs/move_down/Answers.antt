@@ -1,13 +1,18 @@
-use Prim.Native.Nat.{◌-◌}
-use Rattle.program.proofs.Moves.{Moving, moving_start, moving_again, moving_end}
+-- The bytes are copied at once.
+use mathlib.Core.Path.{◌≡◌, sym, ap, ◌∙◌}
+use mathlib.Core.List.{List, ◌++◌}
+use Prim.Native.Nat.{ℕ, ◌+◌, ◌≤◌}
+use native.Mathlib.Omega.{arith}
 use borrow.Author.Rules.{rules}
+use lib.ListN.{length, take, drop, length-drop}
+use lib.Seq.{length-take-le}
+use Rattle.lists.specs.Put.{put, put_start}
 use Rattle.steps.proofs.move_down.Goals as goal
 
-pub loop-i-init : goal.loop-i-init
-loop-i-init c = moving_start _ _ _
-
-pub loop-i-preserved : goal.loop-i-preserved
-loop-i-preserved c = moving_again (search rules) (search rules) c.loop-i.invariant
+at_the_start : (buf : List ℕ) (from n : ℕ) → from + n ≤ length buf → put buf 0 (take n (drop from buf)) ≡ take n (drop from buf) ++ drop n buf
+at_the_start buf from n h =
+    put_start buf (take n (drop from buf))
+    ∙ ap (λ (k : ℕ). take n (drop from buf) ++ drop k buf) (length-take-le n (drop from buf) (omega (arith, length-drop from buf)))
 
 pub returns : goal.returns
-returns c = moving_end (search rules) c.loop-i.invariant
+returns c = rw (at_the_start c.args.buf.now c.args.from c.args.n c.requires) (search rules)

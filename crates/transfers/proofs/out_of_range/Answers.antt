@@ -3,7 +3,6 @@ use mathlib.Core.Path.{sym, ◌∙◌}
 use borrow.Author.Tests.{eq-eqb, ne_eqb, lt-ltb, le-ltb}
 use Rattle.history.specs.Causes.{out_of_range}
 use Rattle.transfers.proofs.Numbers.{inside}
-use borrow.Author.Rules.{rules}
 use Rattle.transfers.proofs.out_of_range.Goals as goal
 
 pub returns-then-beyond : goal.returns-then-beyond
@@ -11,9 +10,7 @@ unfolding out_of_range
 returns-then-beyond c = rw (sym c.beyond.ensures ∙ c.if-beyond.true)
 
 pub security_type-requires : goal.security_type-requires
-security_type-requires c =
-    let s = c in
-    (s.requires, inside s.args.t (sym c.beyond.ensures ∙ c.if-beyond.false))
+security_type-requires c = inside c.args.t (sym c.beyond.ensures ∙ c.if-beyond.false)
 
 pub returns-then-security_type-eq0 : goal.returns-then-security_type-eq0
 unfolding out_of_range

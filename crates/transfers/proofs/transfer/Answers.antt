@@ -1,6 +1,5 @@
 -- The form without limits is the form that is lent the published numbers.
 use Rattle.claims.specs.Fails.{maximum_numbers}
-use borrow.Author.Rules.{rules}
 use Rattle.transfers.proofs.transfer.Goals as goal
 
 pub returns : goal.returns

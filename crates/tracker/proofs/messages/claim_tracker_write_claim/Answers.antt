@@ -3,4 +3,4 @@ use borrow.Author.Rules.{rules}
 use Rattle.tracker.proofs.messages.claim_tracker_write_claim.Goals as goal
 
 pub returns : goal.returns
-returns c = rw c.number_of.ensures c.write_claim.ensures
+returns c = rw c.answered_number.ensures c.write_claim.ensures

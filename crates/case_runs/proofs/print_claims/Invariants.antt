@@ -1,9 +1,0 @@
--- The lines end: each turn leaves one claim less.
-use Rattle.std.proofs.Common.{◌-◌, ◌≤◌}
-use Rattle.case_runs.proofs.print_claims.Given as goal
-
-abbrev pub invariant-loop-i : goal.invariant-loop-i
-invariant-loop-i g l = l.i ≤ l.n
-
-abbrev pub decreases-loop-i : goal.decreases-loop-i
-decreases-loop-i g l = l.n - l.i
