@@ -1,9 +1,9 @@
-// The book and its balances (document 01, sections The book and Loans): their types, and the answer to a refused call. The
-// definitions stand in specs/, with those of the numbers 1 to 4, 7 and 8 of what can be refused, and their laws in proofs/; the crate
-// judging has the code of numbers 1 to 4, the crate loans that of 7 and 8.
+// The book and its balances (document 01, sections The book and Loans): their types, positions with their words, and the answer to a refused
+// call. The definitions stand in specs/, with those of the numbers 1 to 4, 7 and 8 of what can be refused, and their laws in proofs/; the
+// crate judging has the code of numbers 1 to 4, the crate loans that of 7 and 8.
 #![tactic(auto)]
 
-ghost use Rattle.std.specs.Prelude.{◌≡◌, length, replicate};
+ghost use Rattle.std.specs.Prelude.{◌≡◌};
 ghost use Rattle.records.specs.Refusals.{refusal_number};
 ghost use Rattle.book.specs.Answered.{answered};
 ghost use Rattle.book.specs.Book.{word, balance_at};
@@ -93,11 +93,4 @@ impl Done {
             Err(refusal) => Done::refused(refusal, book),
         }
     }
-}
-
-// Sets every balance to zero.
-pub fn clear(balances: &mut [u64])
-    ensures { balances.new ≡ replicate (length balances.old) 0 }
-{
-    balances.fill(0);
 }
