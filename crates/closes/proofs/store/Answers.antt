@@ -5,7 +5,6 @@ use mathlib.Core.List.{List, [], ◌∷◌}
 use lib.ListN.{length}
 use Rattle.records.specs.declared.Claim.{Claim}
 use Rattle.claims.specs.Passes.{passed_nothing}
-use borrow.Author.Rules.{rules}
 use native.Mathlib.Omega.{arith}
 use Rattle.closes.proofs.store.Goals as goal
 

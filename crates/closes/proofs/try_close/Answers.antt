@@ -1,6 +1,5 @@
 -- Each refusal is the first cause that applies; an accepted close is counted, then its claims are stored.
 use mathlib.Core.Path.{◌≡◌, refl, sym, ap, ◌∙◌}
-use Prim.Native.Nat.{ℕ}
 use Rattle.days.specs.Days.{open_after}
 use Rattle.days.proofs.OpenDays.{on_day_lem, no_day}
 use Rattle.records.specs.declared.Refusal.TheVariants as refusal

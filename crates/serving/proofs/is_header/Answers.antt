@@ -1,7 +1,6 @@
 -- The four bytes are compared one after the other.
 use Rattle.stream.proofs.Headers.{header_first, header_second, header_third, header_fourth}
 use native.Mathlib.Omega.{arith}
-use borrow.Author.Rules.{rules}
 use Rattle.serving.proofs.is_header.Goals as goal
 
 pub returns-then-input-following : goal.returns-then-input-following

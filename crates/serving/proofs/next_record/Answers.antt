@@ -1,7 +1,6 @@
 -- Each return says what the input begins with, by its length and its header.
 use mathlib.Core.Path.{sym, ◌∙◌}
 use Rattle.stream.proofs.Headers.{next_empty, next_short, next_transfer, next_cut, next_close, next_wrong}
-use borrow.Author.Rules.{rules}
 use Rattle.serving.proofs.next_record.Goals as goal
 
 pub returns-then-input-eq0 : goal.returns-then-input-eq0

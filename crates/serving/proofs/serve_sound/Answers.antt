@@ -1,8 +1,6 @@
 use mathlib.Core.Path.{◌≡◌, sym, ◌∙◌}
 use Rattle.stream.proofs.Records.{message_number}
-use Prim.Native.Nat.{◌-◌}
-use lib.ListN.{length}
-use Rattle.stream.proofs.Runs.{Going, going_start, going_waits, going_ends, going_full, going_again, size_fits, written_fits, going_words}
+use Rattle.stream.proofs.Runs.{going_start, going_waits, going_ends, going_full, going_again, size_fits, written_fits}
 use borrow.Author.Rules.{rules}
 use native.Mathlib.Omega.{arith}
 use Rattle.serving.proofs.serve_sound.Goals as goal

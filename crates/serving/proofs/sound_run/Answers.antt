@@ -1,7 +1,6 @@
 -- The fields are those of the contract.
 use mathlib.Core.Path.{refl}
 use Rattle.stream.specs.Serving.{is_full}
-use borrow.Author.Rules.{rules}
 use Rattle.serving.proofs.sound_run.Goals as goal
 
 pub returns : goal.returns

@@ -1,11 +1,10 @@
 -- The call leaves its claims in the first 64 KiB of the output, and the answer goes behind them.
-use mathlib.Core.Path.{sym, ap, ◌∙◌}
-use lib.ListN.{length, length-take}
+use mathlib.Core.Path.{sym, ◌∙◌}
+use lib.ListN.{length-take}
 use Prim.Native.Nat.{◌+◌, ◌*◌}
 use Rattle.stream.specs.Serving.{worked}
 use Rattle.stream.proofs.Records.{Leaves, leaves}
 use native.Mathlib.Omega.{arith}
-use borrow.Author.Rules.{rules}
 use Rattle.serving.proofs.work.Goals as goal
 use Rattle.serving.proofs.work.Goals.{After-call-done}
 

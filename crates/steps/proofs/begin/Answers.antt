@@ -1,7 +1,6 @@
 -- The size is judged, then the opening.
 use Rattle.records.specs.Refusals.{refusal_number}
 use Rattle.program.proofs.Coded.{begins_refused, begins_opened, begins_number}
-use borrow.Author.Rules.{rules}
 use Rattle.steps.proofs.begin.Goals as goal
 
 pub returns-then-file-ne-BOOK_BYTES : goal.returns-then-file-ne-BOOK_BYTES

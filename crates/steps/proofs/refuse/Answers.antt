@@ -1,7 +1,6 @@
 -- The answer stands at the output's start.
 use mathlib.Core.Path.{refl}
 use Rattle.program.specs.Steps.{refused_held}
-use borrow.Author.Rules.{rules}
 use Rattle.steps.proofs.refuse.Goals as goal
 
 pub returns : goal.returns

@@ -1,5 +1,4 @@
 -- The number and the buffer are the definition's, by what the writer of records does.
-use borrow.Author.Rules.{rules}
 use Rattle.tracker.proofs.messages.claim_tracker_write_close.Goals as goal
 
 pub returns : goal.returns
