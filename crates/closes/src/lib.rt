@@ -3,47 +3,28 @@
 #![tactic(auto)]
 
 ghost use Rattle.std.specs.Prelude.{◌≡◌, true, length};
-ghost use Rattle.lists.specs.All.{all};
 ghost use Rattle.lists.specs.First.{first_of};
-ghost use Rattle.claims.specs.Close.{close_claims};
 ghost use Rattle.claims.specs.Passes.{Free, Passed};
-ghost use Rattle.claims.specs.Turns.{SoundClose, small};
 ghost use Rattle.book.specs.Answered.{answered};
 ghost use Rattle.book.specs.Soundness.{book_causes};
 ghost use Rattle.history.specs.Calls.{Call};
 ghost use Rattle.history.specs.Results.{Gives};
+ghost use Rattle.lending.specs.Levels.{close_level};
 
 use book::{Book, Done};
 use judging::Market;
+use lending::given::Close;
 use records::Refusal;
 
 // Stores the n claims of a close from the buffer's start; where there are none, no row is looked at again.
-fn store(
-    n: usize,
-    claims: &mut [u8],
-    market: &Market<'_>,
-    day: u32,
-    next: u32,
-    balances: &[u64],
-) -> usize
-    requires { SoundClose market.now.calendar market.now.tables day next × (length balances.now ≡ 8192) × (all small balances.now ≡ true)
-        × Free true claims.old 0 (close_claims market.now.calendar market.now.tables day balances.now)
-        × (n ≡ length (close_claims market.now.calendar market.now.tables day balances.now)) }
-    ensures { Passed true claims.old claims.new 0 result
-        (close_claims market.now.calendar market.now.tables day balances.now) }
+fn store(close: &Close<'_>, n: usize, claims: &mut [u8]) -> usize
+    requires { Free true claims.old 0 (close_level close.now) × (n ≡ length (close_level close.now)) }
+    ensures { Passed true claims.old claims.new 0 result (close_level close.now) }
 {
     if n == 0 {
         return 0;
     }
-    lending::pass_close(
-        true,
-        claims,
-        &market.calendar,
-        &market.tables,
-        day,
-        next,
-        balances,
-    )
+    close.pass_close(true, claims)
 }
 
 // The close of a sound book: numbers 1 to 4 do not apply.
@@ -61,26 +42,24 @@ fn try_close(
     if !reading::read_close(message) {
         return Err(Refusal::Message);
     }
-    let day = book.day;
-    let Some(next) = market.calendar.open_after(day) else {
+    let Some(next) = market.calendar.open_after(book.day) else {
         return Err(Refusal::LastDay);
     };
     if market.calendar.open_after(next.0).is_none() {
         return Err(Refusal::LastDay);
     }
-    let n = lending::pass_close(
-        false,
-        claims,
-        &market.calendar,
-        &market.tables,
-        day,
-        next.0,
+    let close = Close {
+        calendar: &market.calendar,
+        tables: &market.tables,
+        day: book.day,
+        next: next.0,
         balances,
-    );
+    };
+    let n = close.pass_close(false, claims);
     if claims.len() < 35 * n {
         return Err(Refusal::Room);
     }
-    let m = store(n, claims, market, day, next.0, balances);
+    let m = store(&close, n, claims);
     let count = book.count;
     Ok(Done {
         number: 0,

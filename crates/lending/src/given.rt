@@ -8,14 +8,14 @@ use amounts::ClaimType;
 use days::Calendar;
 use securities::{Row, Tables};
 
-// A close: its day, the next open day and the balances at it.
+// A close of a sound book: its day, the next open day and the balances at it.
 #[derive(Clone, Copy)]
-pub(crate) struct Close<'a> {
-    pub(crate) calendar: &'a Calendar<'a>,
-    pub(crate) tables: &'a Tables<'a>,
-    pub(crate) day: u32,
-    pub(crate) next: u32,
-    pub(crate) balances: &'a [u64],
+pub struct Close<'a> {
+    pub calendar: &'a Calendar<'a>,
+    pub tables: &'a Tables<'a>,
+    pub day: u32,
+    pub next: u32,
+    pub balances: &'a [u64],
     ghost sound: { SoundClose calendar.now tables.now day next },
     ghost words: { length balances.now ≡ 8192 },
     ghost small: { all small balances.now ≡ true },

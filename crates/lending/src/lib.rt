@@ -5,20 +5,19 @@
 
 ghost use Rattle.std.specs.Prelude.{◌≡◌, true, ◌≤◌, ◌<◌, length};
 ghost use Rattle.lists.specs.All.{all};
-ghost use Rattle.claims.specs.Close.{tracking_claims, close_claims};
+ghost use Rattle.claims.specs.Close.{tracking_claims};
 ghost use Rattle.claims.specs.Passes.{Free, Passed};
-ghost use Rattle.claims.specs.Turns.{Ready, Sound, SoundClose, small};
+ghost use Rattle.claims.specs.Turns.{Ready, Sound, small};
 ghost use Rattle.amounts.specs.Numbers.{type_number};
-ghost use Rattle.lending.specs.Levels.{loan_level, lender_level, tracking_level, row_level, turn_level, security_level};
+ghost use Rattle.lending.specs.Levels.{loan_level, lender_level, tracking_level, row_level, turn_level, security_level, close_level};
 
-mod given;
+pub mod given;
 
 use crate::given::{Close, Entry};
 use amounts::{ClaimType, claim_on, put_claim};
 use claims::Parties;
-use days::Calendar;
 use records::Dollars;
-use securities::{Row, Tables};
+use securities::Row;
 
 const SECURITIES: u8 = 16;
 
@@ -151,33 +150,16 @@ impl<'a> Close<'a> {
         }
         m
     }
-}
 
-// The claims of a close of the day, in the order security, row, tracking, lender, borrower. It answers how many there are.
-pub fn pass_close(
-    write: bool,
-    buffer: &mut [u8],
-    calendar: &Calendar<'_>,
-    tables: &Tables<'_>,
-    day: u32,
-    next: u32,
-    balances: &[u64],
-) -> usize
-    requires { SoundClose calendar.now tables.now day next × (length balances.now ≡ 8192) × (all small balances.now ≡ true)
-        × Free write buffer.old 0 (close_claims calendar.now tables.now day balances.now) }
-    ensures { Passed write buffer.old buffer.new 0 result
-        (close_claims calendar.now tables.now day balances.now) }
-{
-    let close = Close {
-        calendar,
-        tables,
-        day,
-        next,
-        balances,
-    };
-    let mut m = 0;
-    for security in 0..SECURITIES {
-        m = close.pass_security(write, buffer, m, security);
+    // The claims of the close, in the order security, row, tracking, lender, borrower. It answers how many there are.
+    pub fn pass_close(&self, write: bool, buffer: &mut [u8]) -> usize
+        requires { Free write buffer.old 0 (close_level self.now) }
+        ensures { Passed write buffer.old buffer.new 0 result (close_level self.now) }
+    {
+        let mut m = 0;
+        for security in 0..SECURITIES {
+            m = self.pass_security(write, buffer, m, security);
+        }
+        m
     }
-    m
 }

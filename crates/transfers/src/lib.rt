@@ -3,7 +3,7 @@
 // Dates too, the form without them keeps the published ones.
 #![tactic(auto)]
 
-ghost use Rattle.std.specs.Prelude.{◌≡◌, true, ◌||◌, leb, length};
+ghost use Rattle.std.specs.Prelude.{◌≡◌, true, ◌||◌, leb};
 ghost use Rattle.lists.specs.First.{first_of};
 ghost use Rattle.records.specs.MessageRecords.{transfer_kind, transfer_of, reads};
 ghost use Rattle.records.specs.Refusals.{judged_number};
@@ -70,7 +70,6 @@ fn judge_own(
     t: Transfer,
     tag: Tag,
 ) -> Result<(), Refusal>
-    requires { length balances.now ≡ 8192 }
     ensures { judged_number result ≡ first_of (transfer_causes tables.now pieces.now book balances.now t tag) }
 {
     if out_of_range(tables, t) {

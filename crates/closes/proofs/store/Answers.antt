@@ -13,4 +13,4 @@ none [] e = refl
 none (x ∷ xs) e = absurd (omega (arith, e))
 
 pub returns-then-n-eq0 : goal.returns-then-n-eq0
-returns-then-n-eq0 c = passed_nothing true _ _ _ (none _ (sym c.requires.4 ∙ c.if-n-eq0.true))
+returns-then-n-eq0 c = passed_nothing true _ _ _ (none _ (sym c.requires.1 ∙ c.if-n-eq0.true))

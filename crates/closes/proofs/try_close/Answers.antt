@@ -49,17 +49,20 @@ returns-then-is_none c =
     (close_last m.calendar m.tables a.book a.balances.now asked (close_is a.message.now c.read_close.ensures c.if-not-read_close.false)
     (sym (ap (open_after m.calendar) next) ∙ none_found _ c.open_after-2.ensures c.is_none.ensures c.if-is_none.true))
 
+pub invariant_of-close : goal.invariant_of-close
+invariant_of-close c =
+    let k = judged.sound_number _ _ _ _ c.requires in
+    record {
+      sound = sound_close _ _ _ _ _ k (on_day_lem _ c.open_after.ensures c.in-Some.is);
+      words = k.tables_sound.balance_words_lem;
+      small = small_balances _ _ _ _ c.requires;
+    }
+
 pub pass_close-n-requires : goal.pass_close-n-requires
 pass_close-n-requires c =
     let a = c.args in
     let m = a.market.now in
-    let k = judged.sound_number _ _ _ _ c.requires in
-    let next : c.in-Some.next.0 ≡ open_after m.calendar a.book.day = on_day_lem _ c.open_after.ensures c.in-Some.is in (
-      sound_close _ _ _ _ _ k next,
-      k.tables_sound.balance_words_lem,
-      small_balances _ _ _ _ c.requires,
-      free_count _ _ (omega (arith, close_few m.calendar m.tables a.book.day a.balances.now)),
-    )
+    free_count _ _ (omega (arith, close_few m.calendar m.tables a.book.day a.balances.now))
 
 pub overflow_mul-n : goal.overflow_mul-n
 overflow_mul-n c =
@@ -86,12 +89,7 @@ pub store-m-requires : goal.store-m-requires
 store-m-requires c =
     let a = c.args in
     let m = a.market.now in
-    let k = judged.sound_number _ _ _ _ c.requires in
-    let p = c.pass_close-n.ensures in
-    let next : c.in-Some.next.0 ≡ open_after m.calendar a.book.day = on_day_lem _ c.open_after.ensures c.in-Some.is in (
-      sound_close _ _ _ _ _ k next,
-      k.tables_sound.balance_words_lem,
-      small_balances _ _ _ _ c.requires,
+    let p = c.pass_close-n.ensures in (
       free_store _ _ (omega (arith, close_few m.calendar m.tables a.book.day a.balances.now)) (omega (arith, p.next, c.if-claims-n.false)),
       p.next ∙ zero-add _,
     )

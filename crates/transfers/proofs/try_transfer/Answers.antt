@@ -88,9 +88,6 @@ tag_on-tag-requires c =
     let h = (transfer_is _ c.read_transfer.ensures c.in-Some.is).long in
     (ap length c.first_line.ensures ∙ first_line_length _ h, ap length c.second_line.ensures ∙ second_line_length _ h)
 
-pub judge_own-requires : goal.judge_own-requires
-judge_own-requires c = (judged.lent_sound _ _ _ _ _ _ c.requires).tables_sound.balance_words_lem
-
 pub returns-in_err-judge_own : goal.returns-in_err-judge_own
 unfolding buffer_of sound_causes
 returns-in_err-judge_own c =
