@@ -37,22 +37,22 @@ impl ClaimType {
             ClaimType::Repo => 4,
         }
     }
+}
 
-    // Whether a claim of the type is one on par on loan or on repo.
-    #[tactic(auto, unfolding(claims::specs::Amounts::is_tracked, crate::specs::Numbers::type_number))]
-    fn is_tracked(self) -> bool
-        ensures { result ≡ is_tracked (type_number self) }
-    {
-        matches!(self, ClaimType::Lending | ClaimType::Repo)
-    }
+// Whether a claim of the type is one on par on loan or on repo.
+#[tactic(auto, unfolding(claims::specs::Amounts::is_tracked, crate::specs::Numbers::type_number))]
+fn is_tracked(claim_type: u8) -> bool
+    ensures { result ≡ is_tracked claim_type }
+{
+    claim_type == ClaimType::Lending.number() || claim_type == ClaimType::Repo.number()
+}
 
-    // Whether a claim of the type is a fail or interim claim with Payment Date on or before the day.
-    #[tactic(auto, unfolding(claims::specs::Amounts::is_late, crate::specs::Numbers::type_number))]
-    fn is_late(self, day: u32, row: Row) -> bool
-        ensures { result ≡ is_late (type_number self) day row }
-    {
-        matches!(self, ClaimType::Fail | ClaimType::Interim) && row.payment_date <= day
-    }
+// Whether a claim of the type is a fail or interim claim with Payment Date on or before the day.
+#[tactic(auto, unfolding(claims::specs::Amounts::is_late, crate::specs::Numbers::type_number))]
+fn is_late(claim_type: u8, day: u32, row: Row) -> bool
+    ensures { result ≡ is_late claim_type day row }
+{
+    claim_type <= ClaimType::Interim.number() && row.payment_date <= day
 }
 
 // What becomes of a claim: it settles, or it is a notice.
@@ -70,13 +70,13 @@ enum Outcome {
 impl Outcome {
     // The outcome, the first that applies.
     #[tactic(auto, unfolding(claims::specs::Amounts::outcome_of, days::specs::Days::bit_on, crate::specs::Numbers::outcome_number))]
-    fn of(claim_type: ClaimType, payer: u8, row: Row, interest: Cents, principal: Cents) -> Outcome
+    fn of(claim_type: u8, payer: u8, row: Row, interest: Cents, principal: Cents) -> Outcome
         requires { payer < 16 }
-        ensures { outcome_number result ≡ outcome_of (type_number claim_type) payer row interest.0 principal.0 }
+        ensures { outcome_number result ≡ outcome_of claim_type payer row interest.0 principal.0 }
     {
         if interest.0 == 0 && principal.0 == 0 {
             Outcome::Nothing
-        } else if claim_type.is_tracked() && row.redeems == 1 {
+        } else if is_tracked(claim_type) && row.redeems == 1 {
             Outcome::Redeemed
         } else if (row.mask >> payer) % 2 == 1 {
             Outcome::Masked
@@ -120,15 +120,15 @@ fn number_of(day: Option<Date>) -> u32
 #[tactic(auto, using(days::proofs::OpenDays::day_number_lem), unfolding(claims::specs::Amounts::release_of, crate::specs::Numbers::outcome_number))]
 fn release(
     calendar: &Calendar<'_>,
-    claim_type: ClaimType,
+    claim_type: u8,
     day: u32,
     row: Row,
     outcome: Outcome,
 ) -> u32
-    ensures { result ≡ release_of calendar.now (type_number claim_type) day row (outcome_number outcome) }
+    ensures { result ≡ release_of calendar.now claim_type day row (outcome_number outcome) }
 {
     match outcome {
-        Outcome::Settle if claim_type.is_late(day, row) => number_of(calendar.open_after(day)),
+        Outcome::Settle if is_late(claim_type, day, row) => number_of(calendar.open_after(day)),
         Outcome::Settle => number_of(calendar.open_from(row.payment_date)),
         _ => 0,
     }
@@ -144,18 +144,18 @@ fn is_early(security_type: u32) -> bool
 
 // The slot, 0 for a notice.
 #[tactic(auto, unfolding(claims::specs::Amounts::slot_of, crate::specs::Numbers::outcome_number))]
-fn slot(security_type: u32, claim_type: ClaimType, day: u32, row: Row, outcome: Outcome) -> u8
-    ensures { result ≡ slot_of security_type (type_number claim_type) day row (outcome_number outcome) }
+fn slot(security_type: u32, claim_type: u8, day: u32, row: Row, outcome: Outcome) -> u8
+    ensures { result ≡ slot_of security_type claim_type day row (outcome_number outcome) }
 {
     match outcome {
-        Outcome::Settle if claim_type.is_late(day, row) => 2,
+        Outcome::Settle if is_late(claim_type, day, row) => 2,
         Outcome::Settle if is_early(security_type) => 1,
         Outcome::Settle => 3,
         _ => 0,
     }
 }
 
-// The claim of a type on a row.
+// The claim of a type, given by its number, on a row.
 #[tactic(auto, unfolding(claims::specs::Amounts::claim_on, claims::specs::Amounts::amount, claims::specs::Amounts::factor_for, claims::specs::Amounts::cents_for))]
 pub fn claim_on(
     calendar: &Calendar<'_>,
@@ -164,18 +164,18 @@ pub fn claim_on(
     number: u32,
     parties: Parties,
     par: Dollars,
-    claim_type: ClaimType,
+    claim_type: u8,
     row: Row,
 ) -> Claim
     requires { Claimable parties par.0 row }
-    ensures { result ≡ claim_on calendar.now tables.now day number parties par.0 (type_number claim_type) row }
+    ensures { result ≡ claim_on calendar.now tables.now day number parties par.0 claim_type row }
 {
     let interest = cents_on(par, row.interest_factor);
     let principal = cents_on(par, row.principal_factor);
     let outcome = Outcome::of(claim_type, parties.payer, row, interest, principal);
     let security_type = tables.security_type(parties.security);
     Claim {
-        claim_type: claim_type.number(),
+        claim_type,
         outcome: outcome.number(),
         payer: parties.payer,
         payee: parties.payee,

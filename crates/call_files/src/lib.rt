@@ -7,7 +7,7 @@ ghost use Rattle.std.specs.Counts.{IsPrefixLen};
 
 use book::{Book, Done};
 use std::fs;
-use std::io::Read;
+use std::io::{self, ErrorKind, Read};
 use std::rt::Files;
 
 pub mod entries;
@@ -276,19 +276,29 @@ fn read_full(file: &mut impl Read, buffer: &mut [u8]) -> usize
     done
 }
 
+// Opens a file. The system's paths are text here, so no other path leads to one.
+fn open<R: Files>(rt: &R, path: &[u8]) -> io::Result<R::File> {
+    match str::from_utf8(path) {
+        Ok(path) => fs::open(rt, path),
+        Err(_) => Err(io::Error::from(ErrorKind::InvalidFilename)),
+    }
+}
+
 // The bytes of a file, read to the start of a buffer, as far as it holds them; none where the file cannot be opened.
 pub fn read_file<'a>(
     rt: &(impl Files + Eprint + Alloc),
-    path: &str,
+    path: &[u8],
     buffer: &'a mut [u8],
-) -> &'a [u8] {
-    match fs::open(rt, path) {
+) -> &'a [u8]
+    ensures { length result.now ≤ length buffer.old }
+{
+    match open(rt, path) {
         Ok(mut file) => {
             let n = read_full(&mut file, buffer);
             &buffer[..n]
         }
         Err(error) => {
-            failures::tell(rt, path, error);
+            failures::tell(rt, str::from_utf8(path).unwrap_or("a path"), error);
             b""
         }
     }

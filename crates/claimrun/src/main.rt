@@ -3,7 +3,7 @@
 // is the loop around them: write, read, step.
 #![tactic(auto)]
 
-ghost use Rattle.std.specs.Prelude.{◌≡◌, false, ◌≤◌, length, IfSome};
+ghost use Rattle.std.specs.Prelude.{◌≡◌, false, ◌≤◌, length, IfOk, IfSome};
 ghost use Rattle.std.specs.Result.{result_ok};
 ghost use Rattle.std.specs.Io.{ReadsAtMost, WritesAtMost};
 ghost use Rattle.program.specs.Steps.{begins, holding};
@@ -124,7 +124,9 @@ fn fill(rt: &impl Clock, file: &mut impl Read, buf: &mut [u8]) -> io::Result<usi
 }
 
 // The bytes of book.dat, as far as a buffer holds them.
-fn read_book<'a>(rt: &(impl Files + Clock), buf: &'a mut [u8]) -> io::Result<&'a [u8]> {
+fn read_book<'a>(rt: &(impl Files + Clock), buf: &'a mut [u8]) -> io::Result<&'a [u8]>
+    ensures { IfOk result (λ s. length s.now ≤ length buf.old) }
+{
     let mut file = fs::open(rt, BOOK_FILE)?;
     let n = fill(rt, &mut file, buf)?;
     Ok(&buf[..n])
@@ -187,7 +189,9 @@ fn has_argument(rt: &impl Env, i: usize) -> bool {
 }
 
 // The first argument, in a buffer; nothing where it is longer.
-fn first_argument<'a>(rt: &impl Env, word: &'a mut [u8]) -> &'a [u8] {
+fn first_argument<'a>(rt: &impl Env, word: &'a mut [u8]) -> &'a [u8]
+    ensures { length result.now ≤ length word.old }
+{
     match rt.arg(1, word) {
         Ok(n) => &word[..n],
         Err(_) => b"",

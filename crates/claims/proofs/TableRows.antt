@@ -17,7 +17,7 @@ use Rattle.days.specs.Days.{last_open}
 use Rattle.securities.specs.Securities.{security_of, type_of, frequency_of, row_of, rows_from, rows_of, is_empty, is_filled, filled_rows, good_rows, good_security, good_tables}
 use Rattle.securities.specs.declared.Row.{Row}
 use Rattle.securities.proofs.Sound.{zero_at, zeros_empty}
-use Rattle.claims.specs.Reached.{row_at}
+use Rattle.claims.specs.Reached.{row_at, date_at}
 
 -- ---- a row in its place
 
@@ -65,6 +65,29 @@ length_rows_of tables s = rows_length 16 0 (drop 2 (security_of tables s))
 -- the rows behind the first k
 pub row_behind : (tables : List ℕ) (s k j : ℕ) (d : Row) → k + j < 16 → get_or (drop k (rows_of (security_of tables s))) j d ≡ row_at tables s (k + j)
 row_behind tables s k j d h = get_or-drop k (rows_of (security_of tables s)) j d ∙ rows_of_at tables s (k + j) d h
+
+-- a word of a row, in its place
+row_word : (tables : List ℕ) (s i k : ℕ) → k < 7 → get_or tables (114 * s + 2 + 7 * i + k) 0 ≡ get_or (part (114 * s + 2 + 7 * i) 7 tables) k 0
+row_word tables s i k h =
+    sym (get_or-take 7 (drop (114 * s + 2 + 7 * i) tables) k 0 h ∙ get_or-drop (114 * s + 2 + 7 * i) tables k 0)
+
+-- the Record Date or the Beneficiary Date
+pub date_word : (tables : List ℕ) (s i column : ℕ) → column < 2 → get_or tables (114 * s + 2 + 7 * i + column) 0 ≡ date_at column (row_at tables s i)
+unfolding row_at row_of date_at
+date_word tables s i column h = row_word tables s i column (omega arith) ∙ go column h
+  where
+    words : List ℕ
+    words = part (114 * s + 2 + 7 * i) 7 tables
+
+    go : (column : ℕ) → column < 2 → get_or words column 0 ≡ date_at column (row_of i words)
+    go zero h = refl
+    go (suc zero) h = refl
+    go (suc (suc column)) h = absurd (omega arith)
+
+-- the Payment Date
+pub payment_word : (tables : List ℕ) (s i : ℕ) → get_or tables (114 * s + 2 + 7 * i + 2) 0 ≡ (row_at tables s i).payment_date
+unfolding row_at row_of
+payment_word tables s i = row_word tables s i 2 (omega arith)
 
 -- ---- the numbers of rows rise
 

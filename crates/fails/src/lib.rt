@@ -267,7 +267,7 @@ pub fn transfer_claims(
                     number,
                     parties,
                     t.dollars(),
-                    claim_type,
+                    claim_type.number(),
                     row,
                 );
                 amounts::put_claim(buffer, n, c);

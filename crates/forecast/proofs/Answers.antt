@@ -6,7 +6,7 @@ use Prim.Native.Nat.{ℕ, zero, suc, ◌+◌, ◌≤◌, ◌<◌, min}
 use native.Mathlib.Omega.{arith}
 use lib.Dec.{ltb}
 use borrow.Author.Tests.{lt-ltb, le-ltb, ltb-false, ltb-true}
-use Rattle.std.proofs.Common.{Ok, Err}
+use Rattle.std.proofs.Common.{Result, Ok, Err}
 use Rattle.lists.specs.First.{first_of}
 use Rattle.records.specs.declared.Refusal.{Refusal}
 use Rattle.records.specs.declared.Refusal.TheVariants as refusal
@@ -47,6 +47,11 @@ sums_within sums p = (ltb-false _ _ (or_left _ _ p), ltb-false _ _ (or_right _ _
     or_right false b e = e
     or_right true b e = absurd (true≢false e)
 
+-- the number of sums: that of a bad record, or that of the limit
+pub summed_number : Result Sums Refusal → ℕ
+summed_number (Ok sums) = first_of (number_causes false (past_limit sums.pay sums.receive))
+summed_number (Err r) = refusal_number r
+
 module _ (run : List ℕ) (account date : ℕ) where
   no_figures : (m : ℕ) → 0 < m → figures_for m run account date ≡ whole_cash 0 0
   unfolding figures_for
@@ -63,6 +68,16 @@ module _ (run : List ℕ) (account date : ℕ) where
   wanted_refused w = refusal_answer refusal.Claims refl (rw w refl)
 
   module _ (w : bad_wanted account date ≡ false) where
+    -- the number of the sums is that of the forecast
+    pub sums_number : summed_number (sums_of run account date) ≡ forecast_number run account date
+    unfolding sums_of summed_number forecast_number forecast_causes number_causes first_of past_limit refusal_number cents_to_pay
+    sums_number = go (bad_run run) refl
+      where
+        go : (b : Bool) → bad_run run ≡ b
+            → summed_number (cond b (Err refusal.Claims) (Ok (totals run account date))) ≡ forecast_number run account date
+        go true e = rw (w, e) refl
+        go false e = rw (w, e, capped_past (cents_to_pay run account date), capped_past (cents_to_receive run account date)) refl
+
     -- a bad record
     pub record_refused : {f : Refusal} → Err f ≡ sums_of run account date → answered (Err f) ≡ forecast_of run account date
     unfolding sums_of forecast_number forecast_causes number_causes first_of refusal_number

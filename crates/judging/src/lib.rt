@@ -21,7 +21,7 @@ use securities::{Limits, Pieces, Tables};
 // The words of the balances.
 const BALANCE_WORDS: usize = 8192;
 
-// A calendar with the tables that keep its rules.
+// Calendar and tables of a call, handed on once both keep their rules.
 #[derive(Drop)]
 pub struct Market<'a> {
     pub calendar: Calendar<'a>,

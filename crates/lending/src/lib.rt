@@ -55,7 +55,7 @@ impl Entry<'_> {
                 0,
                 parties,
                 Dollars(par),
-                self.claim_type,
+                self.claim_type.number(),
                 self.row,
             );
             put_claim(buffer, n, c);

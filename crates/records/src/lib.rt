@@ -63,7 +63,7 @@ pub struct Answer {
 // Why a call is refused.
 #[derive(Clone, Copy, Debug, PartialEq, Eq)]
 pub enum Refusal {
-    // Calendar, tables, balances or another lent list has not its length.
+    // Calendar, tables, balances, a saved book or book.dat has not its length.
     Length,
     // The calendar has a bit for a day that its month lacks.
     Calendar,
@@ -93,7 +93,7 @@ pub enum Refusal {
     OffPiece,
     // A code of lending comes before the 2023 memo.
     Early,
-    // There is no such mark.
+    // There is no such mark, or the store has not its length.
     Mark,
     // The mark holds no book, or one that is not sound.
     Saved,

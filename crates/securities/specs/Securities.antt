@@ -88,7 +88,7 @@ largest_factor = 2000000000
 abbrev pub largest_mask : ℕ
 largest_mask = 65535
 
--- A filled row by itself: three dates; factors, final and mask in range; neither the Record nor the Beneficiary Date is after the
+-- A filled row by itself: three dates; factors, redeems (final) and mask in range; neither the Record nor the Beneficiary Date is after the
 -- Payment Date, which is not after the calendar's last open day. That day is 0 if no day is open, so every filled row breaks this.
 unfoldable pub good_row : ℕ → Row → Bool
 good_row last row =

@@ -1,5 +1,5 @@
 // Securities and their payments (document 01, section Securities and payments), date limits (document 02, card 5) and minimum pieces (card
-// 6). Each is judged by the constructor of its type.
+// 6). Limits and pieces are judged where they are taken; the rules of the tables wait for a good calendar.
 #![tactic(auto)]
 
 ghost use Rattle.std.specs.Prelude.{◌≡◌, ◌+◌, ◌≤◌, ◌<◌, ◌↔◌, true, eqb, length, List, ℕ, IfSome, IsSome};
@@ -147,7 +147,7 @@ impl<'a> Tables<'a> {
     }
 }
 
-// Lent date limits that keep every rule: maximum numbers of Beneficiary Dates for MBS, then monthly, quarterly, semiannual, annual.
+// Date limits: maximum numbers of Beneficiary Dates for MBS, then monthly, quarterly, semiannual, annual.
 #[derive(Drop)]
 pub struct Limits<'a> {
     numbers: &'a [u32],
@@ -158,7 +158,7 @@ impl<'a> Model for Limits<'a> {
 
     ghost view = { λ l. l.numbers.now };
 
-    ghost invariant = { λ l. good_limits l.numbers.now ≡ true };
+    ghost invariant = { λ l. length l.numbers.now ≡ 5 };
 }
 
 impl<'a> Limits<'a> {
@@ -174,9 +174,8 @@ impl<'a> Limits<'a> {
         }
     }
 
-    // The date limits of good numbers.
-    pub fn of(numbers: &'a [u32]) -> Limits<'a>
-        requires { good_limits numbers.now ≡ true }
+    // The date limits of five numbers, whatever they are.
+    pub fn of(numbers: &'a [u32; 5]) -> Limits<'a>
         ensures { result ≡ numbers.now }
     {
         Limits { numbers }

@@ -11,7 +11,7 @@ use Rattle.lists.specs.Tests.{cond_true, cond_false}
 use Rattle.lists.specs.Numbers.{bytes_of}
 use Rattle.lists.specs.Fields.{encode}
 use Rattle.lists.specs.Put.{put, put_start, put_put, put_length}
-use Rattle.std.proofs.Common.{Result as Wrote}
+use Rattle.std.proofs.Common.{Result as Judged}
 use Rattle.records.specs.declared.Refusal.{Refusal}
 use Rattle.records.specs.declared.Refusal.TheVariants as refusal
 use Rattle.records.specs.Refusals.{refusal_number}
@@ -36,7 +36,7 @@ pub answer_length : (number : ℕ) → length (answer_bytes number) ≡ 6
 unfolding answer_bytes record_bytes answer_kind encode bytes_of
 answer_length number = refl
 
-pub stored_answer : (l o : List ℕ) (at number : ℕ) (r : Wrote Unit Refusal) → at + 6 ≤ length l
+pub stored_answer : (l o : List ℕ) (at number : ℕ) (r : Judged Unit Refusal) → at + 6 ≤ length l
     → ◌≡◌ {A = Writing} (record { number = wrote_number r; buffer = o }) (writing answer_kind (number ∷ []) [] (take (length l - at) (drop at l)))
     → take at l ++ (o ++ drop (length l - at) (drop at l)) ≡ put l at (answer_bytes number)
 unfolding answer_bytes size answer_kind

@@ -208,8 +208,8 @@ pub fn try_calls<const CALLS: usize, const EXPECTED: usize>(
 {
     let mut calls = [0u8; CALLS];
     let mut expected = [0u8; EXPECTED];
-    let calls = read_file(rt, "calls.in", &mut calls);
-    let expected = read_file(rt, "calls.expected", &mut expected);
+    let calls = read_file(rt, b"calls.in", &mut calls);
+    let expected = read_file(rt, b"calls.expected", &mut expected);
     let mut buffers = Buffers {
         calendar: [0; 512],
         tables: [0; 1856],

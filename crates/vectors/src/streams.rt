@@ -183,6 +183,6 @@ pub fn try_streams<const FILE: usize, const OUTPUT: usize>(
     let mut file = [0u8; FILE];
     let mut balances = [0u64; 8192];
     let mut output = [0u8; OUTPUT];
-    let file = read_file(rt, "streams.in", &mut file);
+    let file = read_file(rt, b"streams.in", &mut file);
     try_all(rt, file, &mut balances, &mut output).print(rt, "streams");
 }

@@ -13,7 +13,7 @@ put_claim-requires c =
     let s = c in
     let free = rows_free _ _ _ _ _ _ _ c.requires.3 c.loop-index.invariant c.loop-index.auto.index c.loop-index-test.true in
     room_one _ _ _ _
-    (row_claim _ _ _ _ _ _ _ s.row-row.ensures s.due_type.ensures s.in-Some.is s.dollars.ensures s.claim_on-c.ensures)
+    (row_claim _ _ _ _ _ _ _ s.row-row.ensures s.due_type.ensures s.in-Some.is s.dollars.ensures (rw s.number.ensures at s.claim_on-c.ensures))
     (free.room c.if-write.true)
 
 pub overflow_add-n : goal.overflow_add-n
@@ -30,7 +30,7 @@ loop-index-preserved c =
     (elim c.match-due_type.branch [
       | in-Some w ↦ rw (w.buffer-is, w.n-is) (elim w.if-write.branch [
         | then-write w' ↦ rw w'.buffer-is (passed_store _ _ _ _ _ _ w'.if-write.true
-            (row_claim _ _ _ _ _ _ _ s.row-row.ensures s.due_type.ensures w.in-Some.is w'.dollars.ensures w'.claim_on-c.ensures)
+            (row_claim _ _ _ _ _ _ _ s.row-row.ensures s.due_type.ensures w.in-Some.is w'.dollars.ensures (rw w'.number.ensures at w'.claim_on-c.ensures))
             w'.put_claim.ensures)
         | else-write w' ↦ rw w'.buffer-is (row_count _ _ _ _ _ _ _ s.row-row.ensures s.due_type.ensures w.in-Some.is _ w'.if-write.false)
       ])

@@ -5,10 +5,6 @@ use Rattle.claims.specs.Fails.{maximum_numbers}
 use Rattle.book.proofs.Judged.{sound_lent}
 use Rattle.transfers.proofs.transfer_sound.Goals as goal
 
-pub of-requires : goal.of-requires
-unfolding good_limits from_one_to
-of-requires c = refl
-
 pub of-requires-2 : goal.of-requires-2
 unfolding good_pieces from_one_to
 of-requires-2 c = refl

@@ -4,14 +4,14 @@ use native.Mathlib.Omega.{arith}
 use mathlib.Core.List.{List}
 use Prim.Native.Nat.{ℕ}
 use Rattle.securities.specs.Lent.{maximum_of}
-use Rattle.securities.proofs.Sound.{five_limits, maximum_mbs, maximum_other}
+use Rattle.securities.proofs.Sound.{maximum_mbs, maximum_other}
 use Rattle.securities.proofs.Limits.maximum.Goals as goal
 
 pub bounds-self-inside-0 : goal.bounds-self-inside-0
-bounds-self-inside-0 c = omega (arith, five_limits _ c.self.invariant)
+bounds-self-inside-0 c = omega (arith, c.self.invariant)
 
 pub bounds-self-inside-frequency : goal.bounds-self-inside-frequency
-bounds-self-inside-frequency c = omega (arith, five_limits _ c.self.invariant, c.frequency.ensures, c.requires.1)
+bounds-self-inside-frequency c = omega (arith, c.self.invariant, c.frequency.ensures, c.requires.1)
 
 pub returns-then-is_mbs : goal.returns-then-is_mbs
 returns-then-is_mbs c =

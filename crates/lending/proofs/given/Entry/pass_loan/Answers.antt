@@ -23,6 +23,6 @@ returns c =
     let a = c.args in
     elim c.if-write.branch [
       | then-write w ↦ rw w.buffer-is (passed_store _ _ _ _ _ _ w.if-write.true (loan_one _ _ _ _ _ _ _ c.if-par-eq0.false)
-          (w.put_claim.ensures ∙ ap (λ (x : Claim). put a.buffer.now (35 * a.n) (claim_bytes x)) w.claim_on-c.ensures))
+          (w.put_claim.ensures ∙ ap (λ (x : Claim). put a.buffer.now (35 * a.n) (claim_bytes x)) rw w.number.ensures at w.claim_on-c.ensures))
       | else-write w ↦ rw w.buffer-is (passed_count _ _ _ _ _ w.if-write.false (loan_one _ _ _ _ _ _ _ c.if-par-eq0.false))
     ]
