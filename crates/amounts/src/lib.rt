@@ -118,13 +118,7 @@ fn number_of(day: Option<Date>) -> u32
 
 // The release date, 0 for a notice.
 #[tactic(auto, using(days::proofs::OpenDays::day_number_lem), unfolding(claims::specs::Amounts::release_of, crate::specs::Numbers::outcome_number))]
-fn release(
-    calendar: &Calendar<'_>,
-    claim_type: u8,
-    day: u32,
-    row: Row,
-    outcome: Outcome,
-) -> u32
+fn release(calendar: &Calendar<'_>, claim_type: u8, day: u32, row: Row, outcome: Outcome) -> u32
     ensures { result ≡ release_of calendar.now claim_type day row (outcome_number outcome) }
 {
     match outcome {

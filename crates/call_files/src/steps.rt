@@ -277,5 +277,10 @@ pub fn run<const FILE: usize, const CLAIMS: usize>(
 {
     let mut file = [0u8; FILE];
     let mut claims = [0u8; CLAIMS];
-    take_all(rt, lines, read_file(rt, path.as_bytes(), &mut file), &mut claims);
+    take_all(
+        rt,
+        lines,
+        read_file(rt, path.as_bytes(), &mut file),
+        &mut claims,
+    );
 }
