@@ -22,8 +22,11 @@ const VERSION: [u8; 15] = *b"claimrun 2.3.0\n";
 
 const ARGUMENTS: &str = "claimrun: takes no arguments other than --help or --version\n";
 
-const HELP: [u8; 333] =
-    *b"claimrun reads book.dat (calendar, tables, opening day: 9,220 bytes) in the folder\nwhere it is started, then message records from standard input. For each record it\nwrites its claims and its answer to standard output. A book.dat that is missing or\nwrong gets one answer; an answer 5 ends the run. --version shows the version number.\n";
+const HELP: [u8; 333] = *b"\
+claimrun reads book.dat (calendar, tables, opening day: 9,220 bytes) in the folder\n\
+where it is started, then message records from standard input. For each record it\n\
+writes its claims and its answer to standard output. A book.dat that is missing or\n\
+wrong gets one answer; an answer 5 ends the run. --version shows the version number.\n";
 
 // Whether a call that failed is to be tried again: at once after a signal, and after a pause where the descriptor is not ready.
 fn is_passing(rt: &impl Clock, error: &io::Error) -> bool {
