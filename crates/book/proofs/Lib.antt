@@ -5,3 +5,4 @@ pub mod Rows
 pub mod Causes
 pub mod Posted
 pub mod Pieces
+pub mod Copied

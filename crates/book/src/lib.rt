@@ -1,9 +1,9 @@
-// The book and its balances (document 01, sections The book and Loans): their types, positions with their words, and the answer to a refused
-// call. The definitions stand in specs/, with those of the numbers 1 to 4, 7 and 8 of what can be refused, and their laws in proofs/; the
+// The book and its balances (document 01, sections The book and Loans): their types, positions with their words, the answer to a refused
+// call, clearing and copying. The definitions stand in specs/, with those of the numbers 1 to 4, 7 and 8 of what can be refused, and their laws in proofs/; the
 // crate judging has the code of numbers 1 to 4, the crate loans that of 7 and 8.
 #![tactic(auto)]
 
-ghost use Rattle.std.specs.Prelude.{◌≡◌};
+ghost use Rattle.std.specs.Prelude.{◌≡◌, ◌++◌, ◌≤◌, length, drop, replicate};
 ghost use Rattle.records.specs.Refusals.{refusal_number};
 ghost use Rattle.book.specs.Answered.{answered};
 ghost use Rattle.book.specs.Book.{word, balance_at};
@@ -71,16 +71,23 @@ pub struct Done {
     pub claims: usize,
 }
 
+// The answer to a refused call: its number, the book given and no claims.
+pub fn refused(number: u16, book: Book) -> Done
+    ensures { result ≡ record { number = number; book = book; claims = 0 } }
+{
+    Done {
+        number,
+        book,
+        claims: 0,
+    }
+}
+
 impl Done {
     // The answer to a refused call: the number of the refusal, the book given and no claims.
     pub fn refused(refusal: Refusal, book: Book) -> Done
         ensures { result ≡ record { number = refusal_number refusal; book = book; claims = 0 } }
     {
-        Done {
-            number: refusal.number(),
-            book,
-            claims: 0,
-        }
+        refused(refusal.number(), book)
     }
 
     // What a call answers on a book: its answer, or that to a refused call.
@@ -92,5 +99,22 @@ impl Done {
             Ok(done) => done,
             Err(refusal) => Done::refused(refusal, book),
         }
+    }
+}
+
+// Sets every balance to zero.
+pub fn clear(balances: &mut [u64])
+    ensures { balances.new ≡ replicate (length balances.old) 0 }
+{
+    balances.fill(0);
+}
+
+// Copies words to the start of others. It is a loop of its own, since std's method would have the library for C need a name from outside.
+pub fn copy(from: &[u64], to: &mut [u64])
+    requires { length from.now ≤ length to.old }
+    ensures { to.new ≡ from.now ++ drop (length from.now) to.old }
+{
+    for w in 0..from.len() {
+        to[w] = from[w];
     }
 }

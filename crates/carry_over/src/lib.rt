@@ -19,8 +19,8 @@ pub fn carry_over(calendar: &[u32], book: Book, saved: &[u64], balances: &mut [u
         return Done::refused(refusal, book);
     }
     let (lending, repo) = balances.split_at_mut(book::TRACKING_WORDS);
-    lending.copy_from_slice(saved);
-    repo.fill(0);
+    book::copy(saved, lending);
+    book::clear(repo);
     Done {
         number: 0,
         book,

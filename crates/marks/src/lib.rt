@@ -112,7 +112,7 @@ fn write_mark(book: Book, balances: &[u64], words: &mut [u64])
 {
     let (head, rest) = words.split_at_mut(3);
     head.copy_from_slice(&[1, book.day as u64, book.count as u64]);
-    rest.copy_from_slice(balances);
+    book::copy(balances, rest);
 }
 
 // Sets a mark: its words become 1, day, count and balances, whatever they were. All other words of the store are left; refused, with 1, 2, 4 or
@@ -145,7 +145,7 @@ pub fn return_to_mark(
 {
     match judge_return(calendar, book.day, balances, store, mark) {
         Ok(saved) => {
-            balances.copy_from_slice(saved.balances);
+            book::copy(saved.balances, balances);
             Done {
                 number: 0,
                 book: saved.book,

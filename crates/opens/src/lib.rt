@@ -19,7 +19,7 @@ pub fn open(calendar: &[u32], tables: &[u32], balances: &mut [u64], day: u32) ->
         };
         return Done::refused(refusal, first);
     }
-    balances.fill(0);
+    book::clear(balances);
     Done {
         number: 0,
         book: Book { day, count: 0 },

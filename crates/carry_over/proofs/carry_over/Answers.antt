@@ -7,6 +7,7 @@ use lib.ListN.{length, replicate}
 use borrow.Author.Rules.{rules}
 use Rattle.records.specs.Refusals.{judged_number}
 use Rattle.records.proofs.Refusals.{refused_number}
+use Rattle.book.proofs.Copied.{copied_whole}
 use Rattle.carry_over.specs.CarriedOver.{widened, carry_number}
 use Rattle.carry_over.proofs.Carried.{saved_words, filled_words, carry_refused, carry_accepted}
 use Rattle.carry_over.proofs.carry_over.Goals as goal
@@ -23,19 +24,20 @@ split_at_mut-lending-requires c =
     let a = c.args in
     omega (arith, filled_words a.calendar.now a.book a.saved.now a.balances.now (sym c.in_default.ensures))
 
-pub copy_from_slice-requires : goal.copy_from_slice-requires
+pub copy-requires : goal.copy-requires
 unfolding carry_number judged_number
-copy_from_slice-requires c =
+copy-requires c =
     let a = c.args in
-    c.split_at_mut-lending.ensures.front_len ∙ sym (saved_words a.calendar.now a.book a.saved.now a.balances.now (sym c.in_default.ensures))
+    omega (arith, c.split_at_mut-lending.ensures.front_len, saved_words a.calendar.now a.book a.saved.now a.balances.now (sym c.in_default.ensures))
 
 pub returns : goal.returns
 unfolding carry_number judged_number widened
 returns c =
     let a = c.args in
     let f = filled_words a.calendar.now a.book a.saved.now a.balances.now (sym c.in_default.ensures) in
-    let s : c.copy_from_slice.new.self ≡ a.saved.now = search rules in
-    let z : c.fill.new.self ≡ replicate (length c.split_at_mut-lending.result.1.now) 0 = search rules in
+    let w = saved_words a.calendar.now a.book a.saved.now a.balances.now (sym c.in_default.ensures) in
+    let s : c.copy.new.to ≡ a.saved.now = copied_whole _ _ _ (omega (arith, c.split_at_mut-lending.ensures.front_len, w)) c.copy.ensures in
+    let z : c.clear.new.balances ≡ replicate (length c.split_at_mut-lending.result.1.now) 0 = c.clear.ensures in
     let n : length c.split_at_mut-lending.result.1.now ≡ 4096 = omega (arith, c.split_at_mut-lending.ensures.back_len, f) in (
       carry_accepted a.calendar.now a.book a.saved.now a.balances.now _ c.in_default.ensures
           (ap₂ (λ (l r : List ℕ). l ++ r) s (z ∙ ap (λ (k : ℕ). replicate k 0) n)),

@@ -1,6 +1,8 @@
 -- A refused return leaves the balances; an accepted one takes up what the mark holds.
 use mathlib.Core.Path.{refl, sym, ap, ◌∙◌}
+use native.Mathlib.Omega.{arith}
 use lib.ListN.{length}
+use Rattle.book.proofs.Copied.{copied_whole}
 use Rattle.records.specs.Refusals.{judged_number}
 use Rattle.records.proofs.Refusals.{refused_number}
 use Rattle.marks.specs.Marks.{return_number}
@@ -8,19 +10,23 @@ use Rattle.marks.proofs.Numbers.{set_balances, set_mark, set_store, return_sets}
 use Rattle.marks.proofs.Stored.{return_refused, return_accepted, balances_held}
 use Rattle.marks.proofs.return_to_mark.Goals as goal
 
-pub copy_from_slice-requires : goal.copy_from_slice-requires
+pub copy-requires : goal.copy-requires
 unfolding judged_number
-copy_from_slice-requires c =
+copy-requires c =
     let a = c.args in
     let z = return_sets _ _ _ _ _ (sym c.in-Ok.ensures.number) in
     let h = balances_held a.calendar.now a.book a.balances.now a.store.now a.mark (set_mark _ _ _ _ _ z) (set_store _ _ _ _ _ z) in
-    set_balances _ _ _ _ _ z ∙ sym (ap length c.in-Ok.ensures.value.1 ∙ h)
+    omega (arith, set_balances _ _ _ _ _ z, ap length c.in-Ok.ensures.value.1 ∙ h)
 
 pub returns-in-Ok : goal.returns-in-Ok
 unfolding return_number judged_number
 returns-in-Ok c =
+    let a = c.args in
     let v = c.in-Ok.ensures.value in
-    (return_accepted _ _ _ _ _ c.in-Ok.ensures.number v.0 (c.copy_from_slice.ensures.after ∙ v.1), refl)
+    let z = return_sets _ _ _ _ _ (sym c.in-Ok.ensures.number) in
+    let h = balances_held a.calendar.now a.book a.balances.now a.store.now a.mark (set_mark _ _ _ _ _ z) (set_store _ _ _ _ _ z) in
+    let e = ap length v.1 ∙ h ∙ sym (set_balances _ _ _ _ _ z) in
+    (return_accepted _ _ _ _ _ c.in-Ok.ensures.number v.0 (copied_whole _ _ _ e c.copy.ensures ∙ v.1), refl)
 
 pub returns-in-Err : goal.returns-in-Err
 unfolding return_number judged_number

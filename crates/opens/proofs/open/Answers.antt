@@ -1,6 +1,5 @@
 -- A refused opening leaves the balances; an accepted one clears them.
 use mathlib.Core.Path.{refl}
-use borrow.Author.Rules.{rules}
 use Rattle.records.specs.Refusals.{judged_number}
 use Rattle.records.proofs.Refusals.{refused_number}
 use Rattle.history.proofs.Answers.{opens_refused, opens_accepted}
@@ -17,4 +16,4 @@ pub returns : goal.returns
 unfolding judged_number
 returns c =
     let a = c.args in
-    (opens_accepted a.calendar.now a.tables.now a.balances.now a.day 0 _ c.in_default.ensures refl (search rules), refl)
+    (opens_accepted a.calendar.now a.tables.now a.balances.now a.day 0 _ c.in_default.ensures refl c.clear.ensures, refl)
