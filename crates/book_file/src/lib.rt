@@ -15,8 +15,8 @@ fn take_words(bytes: &[u8], at: usize, words: &mut [u32])
 }
 
 // Fills the calendar and the tables from the bytes of book.dat, and answers the opening's day.
-pub fn load(bytes: &[u8], calendar: &mut [u32; 480], tables: &mut [u32; 1824]) -> u32
-    requires { 9220 ≤ length bytes.now }
+pub fn load(bytes: &[u8], calendar: &mut [u32], tables: &mut [u32]) -> u32
+    requires { (9220 ≤ length bytes.now) × (length calendar.old ≡ 480) × (length tables.old ≡ 1824) }
     ensures { (calendar.new ≡ calendar_in bytes.now) × (tables.new ≡ tables_in bytes.now)
         × (result ≡ day_in bytes.now) }
 {

@@ -39,12 +39,12 @@ fn refuse(output: &mut [u8], number: u16) -> Held
 // refused, the answer stands at the output's start and the run is over.
 pub fn begin(
     file: &[u8],
-    calendar: &mut [u32; 480],
-    tables: &mut [u32; 1824],
+    calendar: &mut [u32],
+    tables: &mut [u32],
     balances: &mut [u64],
     output: &mut [u8],
 ) -> Held
-    requires { 6 ≤ length output.old }
+    requires { (length calendar.old ≡ 480) × (length tables.old ≡ 1824) × (6 ≤ length output.old) }
     ensures { left_beginning result calendar.new tables.new balances.new output.new
         ≡ begins file.now calendar.old tables.old balances.old output.old }
 {
