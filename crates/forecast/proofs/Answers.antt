@@ -16,7 +16,7 @@ use Rattle.cash.specs.declared.Cash.{Cash}
 use Rattle.forecast.specs.declared.Sums.{Sums}
 use Rattle.cash.specs.Cash.{exact_limit, bad_run, cents_to_pay, cents_to_receive, bad_wanted, past_limit, number_causes, forecast_causes, forecast_number}
 use Rattle.cash.specs.Cash.{WholeCash, whole_cash, as_doubles, figures_for, figures, forecast_of}
-use Rattle.forecast.specs.Adding.{capped, sums_of, answered}
+use Rattle.forecast.specs.Adding.{capped, sums_of, judged, answered}
 use Rattle.forecast.proofs.Summing.{totals}
 
 -- ---- a sum that is held by the first number past the limit is past it where the sum is
@@ -69,8 +69,8 @@ module _ (run : List ℕ) (account date : ℕ) where
 
   module _ (w : bad_wanted account date ≡ false) where
     -- the number of the sums is that of the forecast
-    pub sums_number : summed_number (sums_of run account date) ≡ forecast_number run account date
-    unfolding sums_of summed_number forecast_number forecast_causes number_causes first_of past_limit refusal_number cents_to_pay
+    pub sums_number : summed_number (judged (sums_of run account date)) ≡ forecast_number run account date
+    unfolding sums_of judged summed_number forecast_number forecast_causes number_causes first_of past_limit refusal_number cents_to_pay
     sums_number = go (bad_run run) refl
       where
         go : (b : Bool) → bad_run run ≡ b
@@ -79,8 +79,8 @@ module _ (run : List ℕ) (account date : ℕ) where
         go false e = rw (w, e, capped_past (cents_to_pay run account date), capped_past (cents_to_receive run account date)) refl
 
     -- a bad record
-    pub record_refused : {f : Refusal} → Err f ≡ sums_of run account date → answered (Err f) ≡ forecast_of run account date
-    unfolding sums_of forecast_number forecast_causes number_causes first_of refusal_number
+    pub record_refused : {f : Refusal} → Err f ≡ judged (sums_of run account date) → answered (Err f) ≡ forecast_of run account date
+    unfolding sums_of judged forecast_number forecast_causes number_causes first_of refusal_number
     record_refused {f} e = go (bad_run run) refl e
       where
         go : (b : Bool) → bad_run run ≡ b → Err f ≡ cond b (Err refusal.Claims) (Ok (totals run account date))
@@ -88,10 +88,10 @@ module _ (run : List ℕ) (account date : ℕ) where
         go true b q = let s : f ≡ refusal.Claims = cc in rw s (refusal_answer refusal.Claims refl (rw (w, b) refl))
         go false b q = absurd (let z : ◌≡◌ {A = ℕ} 0 1 = cc in omega arith)
 
-    module _ {sums : Sums} (e : Ok sums ≡ sums_of run account date) where
+    module _ {sums : Sums} (e : Ok sums ≡ judged (sums_of run account date)) where
       -- no bad record
       good_sums : (bad_run run ≡ false) × (sums ≡ totals run account date)
-      unfolding sums_of
+      unfolding sums_of judged
       good_sums = go (bad_run run) refl e
         where
           go : (b : Bool) → bad_run run ≡ b → Ok sums ≡ cond b (Err refusal.Claims) (Ok (totals run account date))

@@ -19,28 +19,28 @@ use Rattle.records.proofs.Answers.{claim_is, claim_not}
 use Rattle.claims.specs.Written.{read_claim, readings}
 use Rattle.forecast.specs.declared.Sums.{Sums}
 use Rattle.cash.specs.Cash.{record_count, records_of, good_parties, is_good, bad_run, counts, cents_of, pay_on, receive_on, cents_to_pay, cents_to_receive, exact_limit}
-use Rattle.forecast.specs.Adding.{capped, with_read, sums_of}
+use Rattle.forecast.specs.Adding.{capped, with_read, sums_of, good_so_far, judged}
 
 -- ---- one record
 
 module _ (sums : Sums) (s : List ℕ) (account date : ℕ) {r : Option Claim} (e : claim_answer r ≡ reading claim_kind s) where
   -- what is no record is bad
-  pub with_none : r ≡ None → Err refusal.Claims ≡ with_read sums (read_claim s) account date
-  unfolding read_claim with_read is_good
+  pub with_none : r ≡ None → Err refusal.Claims ≡ judged (with_read (good_so_far sums) (read_claim s) account date)
+  unfolding read_claim with_read judged is_good
   with_none q = rw (claim_not s e q) refl
 
   module _ {c : Claim} (q : r ≡ Some c) where
     -- so is one with bad parties
-    pub with_bad : good_parties c ≡ false → Err refusal.Claims ≡ with_read sums (read_claim s) account date
-    unfolding read_claim with_read is_good
+    pub with_bad : good_parties c ≡ false → Err refusal.Claims ≡ judged (with_read (good_so_far sums) (read_claim s) account date)
+    unfolding read_claim with_read judged is_good
     with_bad g = let f = claim_is s e q in rw (f.whole, ← f.same, g) refl
 
     -- any other adds its claim to either sum
     pub with_good : {pay receive : ℕ} → good_parties c ≡ true
         → pay ≡ capped (sums.pay + cond (counts date c && eqb c.payer account) (cents_of c) 0)
         → receive ≡ capped (sums.receive + cond (counts date c && eqb c.payee account) (cents_of c) 0)
-        → Ok (record { pay = pay; receive = receive }) ≡ with_read sums (read_claim s) account date
-    unfolding read_claim with_read is_good pay_on receive_on
+        → Ok (record { pay = pay; receive = receive }) ≡ judged (with_read (good_so_far sums) (read_claim s) account date)
+    unfolding read_claim with_read judged is_good pay_on receive_on
     with_good g p t = let f = claim_is s e q in rw (f.whole, ← f.same, g, p, t) refl
 
 -- ---- the records of a run, one after the other
@@ -107,14 +107,14 @@ module _ {s : List ℕ} {account date : ℕ} {sums : Sums} {rest : List ℕ} (k 
   unfolding capped
   sums_fit = let p = k.pay_is in let r = k.receive_is in (omega arith, omega arith)
 
-  module _ {next : Result Sums Refusal} (h : 0 < length rest) (e : next ≡ with_read sums (read_claim rest) account date) where
+  module _ {next : Result Sums Refusal} (h : 0 < length rest) (e : next ≡ judged (with_read (good_so_far sums) (read_claim rest) account date)) where
     -- a bad record
-    pub sums_stop : {f : Refusal} → next ≡ Err f → Err f ≡ sums_of s account date
-    unfolding with_read sums_of bad_run
+    pub sums_stop : {f : Refusal} → next ≡ Err f → Err f ≡ judged (sums_of s account date)
+    unfolding with_read sums_of judged bad_run
     sums_stop {f} q = go (is_good (read_claim rest)) refl (sym q ∙ e)
       where
         go : (b : Bool) → is_good (read_claim rest) ≡ b
-            → Err f ≡ cond b (Ok (added sums (read_claim rest) account date)) (Err refusal.Claims)
+            → Err f ≡ cond (not b) (Err refusal.Claims) (Ok (added sums (read_claim rest) account date))
             → Err f ≡ cond (not (all is_good (records_of s))) (Err refusal.Claims) (Ok (totals s account date))
         go true g q = cc
         go false g q = q ∙ rw (k.good, records_more rest h, g) refl
@@ -122,7 +122,7 @@ module _ {s : List ℕ} {account date : ℕ} {sums : Sums} {rest : List ℕ} (k 
     -- a good record
     pub sums_step : {sums₁ : Sums} {n : ℕ} → next ≡ Ok sums₁ → n ≡ first_size rest
         → Summing s account date sums₁ (take (length rest - n) (drop n rest))
-    unfolding with_read cents_to_pay cents_to_receive sum
+    unfolding with_read judged cents_to_pay cents_to_receive sum
     sums_step {sums₁} {n} q c =
         let whole : take (length rest - n) (drop n rest) ≡ drop n rest = take_all (length rest - n) (drop n rest) (omega (arith, length-drop n rest)) in
         rw (whole, c) (go (is_good (read_claim rest)) refl (sym q ∙ e))
@@ -131,7 +131,7 @@ module _ {s : List ℕ} {account date : ℕ} {sums : Sums} {rest : List ℕ} (k 
         r = read_claim rest
 
         go : (b : Bool) → is_good (read_claim rest) ≡ b
-            → Ok sums₁ ≡ cond b (Ok (added sums (read_claim rest) account date)) (Err refusal.Claims)
+            → Ok sums₁ ≡ cond (not b) (Err refusal.Claims) (Ok (added sums (read_claim rest) account date))
             → Summing s account date sums₁ (drop (first_size rest) rest)
         go true g q =
             let pay : sums₁.pay ≡ capped (sums.pay + pay_on account date r) = cc in
@@ -150,8 +150,8 @@ module _ {s : List ℕ} {account date : ℕ} {sums : Sums} {rest : List ℕ} (k 
             }
         go false g q = absurd (let z : ◌≡◌ {A = ℕ} 0 1 = cc in omega arith)
 
-  pub sums_end : length rest ≡ 0 → Ok sums ≡ sums_of s account date
-  unfolding sums_of bad_run cents_to_pay cents_to_receive sum
+  pub sums_end : length rest ≡ 0 → Ok sums ≡ judged (sums_of s account date)
+  unfolding sums_of judged bad_run cents_to_pay cents_to_receive sum
   sums_end h =
       let l = records_none rest h in
       let g : all is_good (records_of s) ≡ true = k.good ∙ rw l refl in

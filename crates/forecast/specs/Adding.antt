@@ -1,5 +1,5 @@
 -- The sums of a forecast as a loop over the records adds them up: held in 64 bits, since what is past the limit is past it however far.
-use Rattle.std.specs.Prelude.{cond, List, ℕ, ◌+◌, min}
+use Rattle.std.specs.Prelude.{cond, false, not, ◌||◌, Bool, List, ℕ, ◌+◌, min}
 use Rattle.std.specs.Prelude.{Option, Result, Ok, Err}
 use Rattle.records.specs.declared.Claim.{Claim}
 use Rattle.records.specs.declared.Refusal.{Refusal}
@@ -14,18 +14,37 @@ use Rattle.cash.specs.Cash.{is_good, bad_run, pay_on, receive_on, cents_to_pay, 
 unfoldable pub capped : ℕ → ℕ
 capped n = min (exact_limit + 1) n
 
--- The sums with one record more, unless it is bad.
-unfoldable pub with_read : Sums → Option Claim → ℕ → ℕ → Result Sums Refusal
-with_read sums r account date =
-    cond (is_good r)
-    (Ok (record { pay = capped (sums.pay + pay_on account date r); receive = capped (sums.receive + receive_on account date r) }))
-    (Err refusal.Claims)
+-- The sums of an account over records, and whether one of these is bad.
+pub record Summed : Type 0 where
+  pub bad : Bool
+  pub pay : ℕ
+  pub receive : ℕ
 
--- The sums of a run, unless a record of it is bad.
-unfoldable pub sums_of : List ℕ → ℕ → ℕ → Result Sums Refusal
+-- The sums with one record more.
+unfoldable pub with_read : Summed → Option Claim → ℕ → ℕ → Summed
+with_read sums r account date =
+    record {
+      bad = sums.bad || not (is_good r);
+      pay = capped (sums.pay + pay_on account date r);
+      receive = capped (sums.receive + receive_on account date r);
+    }
+
+-- The sums of a run.
+unfoldable pub sums_of : List ℕ → ℕ → ℕ → Summed
 sums_of run account date =
-    cond (bad_run run) (Err refusal.Claims)
-    (Ok (record { pay = capped (cents_to_pay run account date); receive = capped (cents_to_receive run account date) }))
+    record {
+      bad = bad_run run;
+      pay = capped (cents_to_pay run account date);
+      receive = capped (cents_to_receive run account date);
+    }
+
+-- Sums so far, none of whose records is bad.
+abbrev pub good_so_far : Sums → Summed
+good_so_far sums = record { bad = false; pay = sums.pay; receive = sums.receive }
+
+-- Sums, unless a record is bad.
+unfoldable pub judged : Summed → Result Sums Refusal
+judged sums = cond sums.bad (Err refusal.Claims) (Ok (record { pay = sums.pay; receive = sums.receive }))
 
 -- The forecast for figures: a refusal has its number and three zeros.
 unfoldable pub answered : Result Cash Refusal → CashForecast

@@ -6,7 +6,7 @@ ghost use Rattle.std.specs.Prelude.{◌≡◌, cond, ◌&&◌, ◌+◌, ◌≤�
 ghost use Rattle.claims.specs.Written.{read_claim};
 ghost use Rattle.cash.specs.Cash.{good_parties, counts, cents_of, exact_limit, bad_wanted, past_limit};
 ghost use Rattle.cash.specs.Cash.{whole_cash, as_doubles, forecast_of};
-ghost use Rattle.forecast.specs.Adding.{capped, with_read, sums_of, answered};
+ghost use Rattle.forecast.specs.Adding.{capped, with_read, sums_of, good_so_far, judged, answered};
 
 use cash::{Cash, CashForecast};
 use days::Date;
@@ -70,7 +70,7 @@ fn good_parties(c: Claim) -> bool
 // The sums with the record at the start of some bytes, unless that is bad.
 fn with_record(sums: Sums, bytes: &[u8], account: u32, date: u32) -> Result<Sums, Refusal>
     requires { (sums.pay ≤ exact_limit + 1) × (sums.receive ≤ exact_limit + 1) }
-    ensures { result ≡ with_read sums (read_claim bytes.now) account date }
+    ensures { result ≡ judged (with_read (good_so_far sums) (read_claim bytes.now) account date) }
 {
     let Some(c) = reading::read_claim(bytes) else {
         return Err(Refusal::Claims);
@@ -86,7 +86,7 @@ fn with_record(sums: Sums, bytes: &[u8], account: u32, date: u32) -> Result<Sums
 
 // The sums of an account over a run of claim records, in one pass, unless a record is bad.
 fn sums_of(claims: &[u8], account: u32, date: u32) -> Result<Sums, Refusal>
-    ensures { result ≡ sums_of claims.now account date }
+    ensures { result ≡ judged (sums_of claims.now account date) }
 {
     let mut sums = Sums { pay: 0, receive: 0 };
     let mut rest = claims;
