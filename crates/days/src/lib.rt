@@ -205,7 +205,9 @@ fn seek(months: &[u32], m0: usize, k0: u32) -> Option<Date>
     None
 }
 
-// The first open day from a date on, past its first skip bits.
+// The first open day from a date on, past its first skip bits. It is part of its callers' code, so that a close looks once at the Payment
+// Date of a row for all claims on it.
+#[inline(always)]
 fn open_at(months: &[u32], n: u32, skip: u32) -> Option<Date>
     requires { (length months.now ≡ 480) × (skip ≤ 1) }
     ensures { result ≡ as_day (open_at months.now n skip) }

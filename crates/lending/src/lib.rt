@@ -82,15 +82,17 @@ impl Entry<'_> {
         m
     }
 
-    // The claims by lender and borrower; held is the balances of the tracking in the security.
+    // The claims by lender and borrower; held is the balances of the tracking in the security. What they are made from is taken by value, so
+    // that it need not be read again behind each claim that is stored.
     fn pass_tracking(&self, write: bool, buffer: &mut [u8], n: usize, held: &[u64]) -> usize
         requires { (length held.now ≡ 256) × (all small held.now ≡ true) × Free write buffer.old n (tracking_level self.now held.now) }
         ensures { Passed write buffer.old buffer.new n result (tracking_level self.now held.now) }
     {
+        let entry = *self;
         let mut m = n;
         for lender in 0..ACCOUNTS {
             let at = 16 * lender as usize;
-            m = self.pass_lender(write, buffer, m, lender, &held[at..at + 16]);
+            m = entry.pass_lender(write, buffer, m, lender, &held[at..at + 16]);
         }
         m
     }

@@ -1,52 +1,31 @@
--- What the loop keeps: the invariant says what is left of the loop's equation, so a turn is one step of the definition.
-use mathlib.Core.Path.{◌≡◌, refl, sym, ap, ◌∙◌}
-use mathlib.Core.List.{List, ◌++◌, append_assoc}
-use Prim.Native.Nat.{ℕ, suc, ◌+◌, ◌-◌, ◌/◌, ◌%◌, ◌≤◌, ◌<◌}
-use native.Mathlib.Nat.{add-zero, sub-zero}
-use native.Mathlib.Numerals.{add-one}
+-- What is stored: the lowest bytes of a number, and bytes at once.
+use mathlib.Core.Path.{◌≡◌, refl, sym, ap, ap₂, ◌∙◌}
+use mathlib.Core.List.{List, ◌∷◌, ◌++◌}
+use Prim.Native.Nat.{ℕ, zero, suc, ◌+◌, ◌-◌, ◌/◌, ◌%◌, ◌^◌, ◌≤◌}
+use native.Mathlib.Nat.{div-one, pow-suc, div-div-eq-div-mul}
 use native.Mathlib.Omega.{arith}
-use lib.ListN.{length, take, drop, get_or, set, length-set, take-append-drop}
-use lib.Seq.{length-take-le, take-length, take-suc-set, drop-set-lt, drop-drop, paste-suc}
-use Rattle.lists.specs.Numbers.{bytes_of, bytes_length}
-use Rattle.lists.specs.Put.{put, put_none}
+use lib.ListN.{length, take, drop}
+use lib.Seq.{drop-drop}
+use Rattle.std.specs.Int.{byte_at, bytes_low_first}
+use Rattle.lists.specs.Numbers.{bytes_of}
+use Rattle.lists.specs.Put.{put}
 
--- ---- a number stored, lowest byte first
+-- ---- the lowest bytes of a number, as std has them
 
-pub record Putting (buffer₀ : List ℕ) (at w v : ℕ) (buffer : List ℕ) (n i : ℕ) : Type 0 where
-  pub small : i ≤ w
-  pub sized : length buffer ≡ length buffer₀
-  pub tail : drop (at + i) buffer ≡ drop (at + i) buffer₀
-  pub whole : put buffer₀ at (bytes_of w v) ≡ take (at + i) buffer ++ (bytes_of (w - i) n ++ drop (at + w) buffer₀)
+byte_here : (i n : ℕ) → byte_at i n ≡ n / 256 ^ i % 256
+byte_here zero n = sym (ap (λ (k : ℕ). k % 256) (div-one n))
+byte_here (suc i) n = refl
 
-pub put_start : (buffer : List ℕ) (at w v : ℕ) → Putting buffer at w v buffer v 0
-unfolding put
-put_start buffer at w v =
-    record { small = omega arith; sized = refl; tail = refl; whole = rw (bytes_length, add-zero, sub-zero) }
-
-pub put_step : {buffer₀ buffer : List ℕ} {at w v n i : ℕ} → at + w ≤ length buffer₀ → i < w → Putting buffer₀ at w v buffer n i
-    → Putting buffer₀ at w v (set buffer (at + i) (n % 256)) (n / 256) (i + 1)
+low_first : (i k n w : ℕ) → w ≤ k → take w (bytes_low_first i k n) ≡ bytes_of w (n / 256 ^ i)
 unfolding bytes_of
-put_step {buffer₀} {buffer} {at} {w} {v} {n} {i} h l k =
-    let p : at + (i + 1) ≡ suc (at + i) = omega arith in
-    let m : w - i ≡ suc (w - (i + 1)) = omega arith in
-    let q : at + (i + 1) ≡ at + i + 1 = omega arith in
-    let room : at + i < length buffer = omega (arith, k.sized) in
-    record {
-      small = omega arith;
-      sized = length-set buffer (at + i) (n % 256) ∙ k.sized;
-      tail = drop-set-lt (at + (i + 1)) buffer (at + i) (n % 256) (omega arith)
-          ∙ rw q (sym (drop-drop 1 (at + i) buffer) ∙ ap (drop 1) k.tail ∙ drop-drop 1 (at + i) buffer₀);
-      whole = k.whole ∙ rw (m, p, take-suc-set buffer (at + i) (n % 256), append_assoc);
-    }
+low_first i k n zero h = refl
+low_first i zero n (suc w) h = absurd (omega arith)
+low_first i (suc k) n (suc w) h =
+    let e : n / 256 ^ suc i ≡ n / 256 ^ i / 256 = rw pow-suc (sym (div-div-eq-div-mul n (256 ^ i) 256)) in
+    ap₂ (λ (b : ℕ) (bs : List ℕ). b ∷ bs) (byte_here i n) (low_first (suc i) k n w (omega arith) ∙ ap (bytes_of w) e)
 
-pub put_end : {buffer₀ buffer : List ℕ} {at w v n i : ℕ} → w ≤ i → Putting buffer₀ at w v buffer n i
-    → buffer ≡ put buffer₀ at (bytes_of w v)
-unfolding bytes_of
-put_end {buffer₀} {buffer} {at} {w} {v} {n} {i} l k =
-    let e : i ≡ w = omega arith in
-    let z : w - i ≡ 0 = omega arith in
-    sym (take-append-drop (at + i) buffer)
-    ∙ ap (λ (x : List ℕ). take (at + i) buffer ++ x) (k.tail ∙ ap (λ (j : ℕ). drop (at + j) buffer₀) e) ∙ sym (rw z at k.whole)
+pub lowest : (n w : ℕ) → w ≤ 8 → take w (bytes_low_first 0 8 n) ≡ bytes_of w n
+lowest n w h = low_first 0 8 n w h ∙ ap (bytes_of w) (div-one n)
 
 -- ---- bytes stored at once
 

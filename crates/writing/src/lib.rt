@@ -10,24 +10,20 @@ ghost use Rattle.records.specs.MessageRecords.{writing, wrote_number};
 
 use records::{Answer, Claim, Refusal, Transfer};
 
-// Stores a number's bytes, lowest first, from a place of the buffer on.
-fn put_number(buffer: &mut [u8], at: usize, width: usize, number: u64)
-    requires { at + width ≤ length buffer.old }
-    ensures { buffer.new ≡ put buffer.old at (bytes_of width number) }
-{
-    let mut n = number;
-    for i in 0..width {
-        buffer[at + i] = (n % 256) as u8;
-        n /= 256;
-    }
-}
-
 // Stores bytes from a place of the buffer on.
 fn put_bytes(buffer: &mut [u8], at: usize, bytes: &[u8])
     requires { at + length bytes.now ≤ length buffer.old }
     ensures { buffer.new ≡ put buffer.old at bytes.now }
 {
     buffer[at..at + bytes.len()].copy_from_slice(bytes);
+}
+
+// Stores a number's lowest bytes, lowest first, from a place of the buffer on.
+fn put_number(buffer: &mut [u8], at: usize, width: usize, number: u64)
+    requires { (at + width ≤ length buffer.old) × (width ≤ 8) }
+    ensures { buffer.new ≡ put buffer.old at (bytes_of width number) }
+{
+    put_bytes(buffer, at, &number.to_le_bytes()[..width]);
 }
 
 // A transfer with its two lines of free text, written to the buffer's start.

@@ -1,12 +1,14 @@
-use borrow.Author.Rules.{rules}
-use Rattle.writing.proofs.Loops.{put_start, put_step, put_end}
+-- `put_number` stores the lowest bytes of the number.
+use mathlib.Core.Path.{ap, ◌∙◌}
+use mathlib.Core.List.{List}
+use Prim.Native.Nat.{ℕ}
+use lib.ListN.{take}
+use Rattle.lists.specs.Put.{put}
+use Rattle.writing.proofs.Loops.{lowest}
 use Rattle.writing.proofs.put_number.Goals as goal
 
-pub loop-i-init : goal.loop-i-init
-loop-i-init c = put_start _ _ _ _
-
-pub loop-i-preserved : goal.loop-i-preserved
-loop-i-preserved c = put_step (search rules) (search rules) c.loop-i.invariant
-
 pub returns : goal.returns
-returns c = put_end c.loop-i-test.false c.loop-i.invariant
+returns c =
+    let a = c.args in
+    c.put_bytes.ensures ∙ ap (λ (l : List ℕ). put a.buffer.now a.at (take a.width l)) c.to_le_bytes.ensures
+    ∙ ap (put a.buffer.now a.at) (lowest a.number a.width c.requires.1)
