@@ -10,9 +10,11 @@ use lib.ListN.{drop, drop_of_length-le}
 use lib.Seq.{drop-cons}
 use Rattle.lists.specs.Select.{first_key}
 use Rattle.securities.specs.Securities.{security_of, type_of, rows_of}
+use Rattle.records.specs.declared.Transfer.{Transfer}
 use Rattle.std.proofs.Common.{Option, Some, None, MatchOption, unwrap_or}
 use Rattle.claims.specs.Fails.{is_mbs}
-use Rattle.claims.specs.Reached.{row_at, leading, is_reached, reached_from, reached_rows, is_waiting, waiting_from, waiting_row}
+use Rattle.claims.specs.Claimable.{Claimable}
+use Rattle.claims.specs.Reached.{Claiming, row_at, leading, is_reached, reached_from, reached_rows, is_waiting, waiting_from, waiting_row}
 use Rattle.claims.proofs.TableRows.{rows_of_at, row_number, length_rows_of}
 
 -- ---- one row after the other
@@ -34,7 +36,7 @@ pub record Reaching (column : ℕ) (tables : List ℕ) (s day first i : ℕ) : T
   pub small : i ≤ 16
   pub rest : reached_from column tables s day first ≡ i + leading (is_reached column day) (drop i (rows_of (security_of tables s)))
 
-reach_start : (column : ℕ) (tables : List ℕ) (s day first : ℕ) → first ≤ 16 → Reaching column tables s day first first
+pub reach_start : (column : ℕ) (tables : List ℕ) (s day first : ℕ) → first ≤ 16 → Reaching column tables s day first first
 unfolding reached_from
 reach_start column tables s day first h = record { small = h; rest = refl }
 
@@ -50,10 +52,10 @@ module _ {column : ℕ} {tables : List ℕ} {s day first i : ℕ} (k : Reaching 
   reach_stop : is_reached column day (row_at tables s i) ≡ false → i ≡ reached_from column tables s day first
   reach_stop e = sym (k.rest ∙ rw (leading_here, e) (add-zero i))
 
-  reach_next : is_reached column day (row_at tables s i) ≡ true → Reaching column tables s day first (i + 1)
+  pub reach_next : is_reached column day (row_at tables s i) ≡ true → Reaching column tables s day first (i + 1)
   reach_next e = record { small = omega arith; rest = k.rest ∙ rw (leading_here, e, add-one) (omega arith) }
 
-reach_end : {column : ℕ} {tables : List ℕ} {s day first i : ℕ} → Reaching column tables s day first i → 16 ≤ i
+pub reach_end : {column : ℕ} {tables : List ℕ} {s day first i : ℕ} → Reaching column tables s day first i → 16 ≤ i
     → i ≡ reached_from column tables s day first
 unfolding leading
 reach_end {column} {tables} {s} {day} {first} {i} k h =
@@ -81,7 +83,7 @@ module _ (tables : List ℕ) (s contract day : ℕ) where
     pub few : end ≤ 16
     pub rest : waiting_from tables s contract day end first ≡ waiting_from tables s contract day end i
 
-  seek_start : (end first : ℕ) → first ≤ end → end ≤ 16 → Seeking end first first
+  pub seek_start : (end first : ℕ) → first ≤ end → end ≤ 16 → Seeking end first first
   seek_start end first h k = record { within = h; few = k; rest = refl }
 
   module _ {end first i : ℕ} (k : Seeking end first i) (h : i < end) where
@@ -95,17 +97,17 @@ module _ (tables : List ℕ) (s contract day : ℕ) where
         let small : i < 16 = omega (arith, k.few) in
         rw (n, drop-cons rows i here (omega (arith, length_rows_of tables s)), rows_of_at tables s i here small, row_number tables s i, add-one)
 
-    seek_found : is_waiting contract day (row_at tables s i) ≡ true → i ≡ waiting_from tables s contract day end first
+    pub seek_found : is_waiting contract day (row_at tables s i) ≡ true → i ≡ waiting_from tables s contract day end first
     seek_found q = sym (k.rest ∙ waiting_here ∙ rw q)
 
-    seek_next : is_waiting contract day (row_at tables s i) ≡ false → Seeking end first (i + 1)
+    pub seek_next : is_waiting contract day (row_at tables s i) ≡ false → Seeking end first (i + 1)
     seek_next q = record { within = omega arith; few = k.few; rest = k.rest ∙ waiting_here ∙ rw q }
 
   none_from : (n : ℕ) → waiting_from tables s contract day n n ≡ n
   unfolding waiting_from first_key
   none_from n = let z : n - n ≡ 0 = omega arith in rw z
 
-  seek_end : {end first i : ℕ} → Seeking end first i → end ≤ i → end ≡ waiting_from tables s contract day end first
+  pub seek_end : {end first i : ℕ} → Seeking end first i → end ≤ i → end ≡ waiting_from tables s contract day end first
   seek_end {end} {first} {i} k h =
       let e : i ≡ end = omega (arith, k.within) in
       sym (k.rest ∙ rw e (none_from end))
@@ -131,3 +133,10 @@ module _ (tables : List ℕ) (s contract day : ℕ) where
         → m ≡ waiting_row tables s contract day first
     unfolding waiting_row
     waiting_mbs q o = rw (q, ← e) o
+
+-- ---- what a claim asks, of a transfer that claims
+
+pub claimable : {tables : List ℕ} {t : Transfer} (i : ℕ) {par : ℕ} → Claiming tables t → i < 16 → t.par ≤ 9000000000 → par ≡ t.par
+    → Claimable (record { security = t.security; payee = t.receiver; payer = t.sender }) par (row_at tables t.security i)
+claimable i f k h e =
+    record { held = f.held; paying = f.paying; small = omega arith; interest = f.interest i k; principal = f.principal i k }

@@ -27,7 +27,7 @@ use Rattle.fails.proofs.Due.{due_each}
 
 -- ---- another tracking code
 
-rows_by_code : (tables limits : List ℕ) (day : ℕ) (t : Transfer) (tag : Tag) → (t.code ≡ 0 → ⊥) → no_rows ≡ recent_rows tables limits day t tag
+pub rows_by_code : (tables limits : List ℕ) (day : ℕ) (t : Transfer) (tag : Tag) → (t.code ≡ 0 → ⊥) → no_rows ≡ recent_rows tables limits day t tag
 unfolding recent_rows
 rows_by_code tables limits day t tag h = rw (ne_eqb t.code 0 h) refl
 
