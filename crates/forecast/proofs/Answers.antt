@@ -16,7 +16,7 @@ use Rattle.cash.specs.declared.Cash.{Cash}
 use Rattle.forecast.specs.declared.Sums.{Sums}
 use Rattle.cash.specs.Cash.{exact_limit, bad_run, cents_to_pay, cents_to_receive, bad_wanted, past_limit, number_causes, forecast_causes, forecast_number}
 use Rattle.cash.specs.Cash.{WholeCash, whole_cash, as_doubles, figures_for, figures, forecast_of}
-use Rattle.forecast.specs.Adding.{capped, sums_of, judged, answered}
+use Rattle.forecast.specs.Adding.{Summed, capped, sums_of, judged, answered}
 use Rattle.forecast.proofs.Summing.{totals}
 
 -- ---- a sum that is held by the first number past the limit is past it where the sum is
@@ -69,9 +69,15 @@ module _ (run : List ℕ) (account date : ℕ) where
 
   module _ (w : bad_wanted account date ≡ false) where
     -- the number of the sums is that of the forecast
-    pub sums_number : summed_number (judged (sums_of run account date)) ≡ forecast_number run account date
+    pub sums_number : {sums : Summed} {past : Bool} {number : ℕ} → sums ≡ sums_of run account date → past ≡ past_limit sums.pay sums.receive
+        → number ≡ first_of (number_causes sums.bad past) → number ≡ forecast_number run account date
+    unfolding sums_of forecast_number forecast_causes past_limit
+    sums_number e p n = n ∙ rw (p, e, w, capped_past (cents_to_pay run account date), capped_past (cents_to_receive run account date))
+
+    -- so is that of what the code makes of them
+    pub judged_sums_number : summed_number (judged (sums_of run account date)) ≡ forecast_number run account date
     unfolding sums_of judged summed_number forecast_number forecast_causes number_causes first_of past_limit refusal_number cents_to_pay
-    sums_number = go (bad_run run) refl
+    judged_sums_number = go (bad_run run) refl
       where
         go : (b : Bool) → bad_run run ≡ b
             → summed_number (cond b (Err refusal.Claims) (Ok (totals run account date))) ≡ forecast_number run account date

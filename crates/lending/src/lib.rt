@@ -82,7 +82,7 @@ impl Entry<'_> {
         m
     }
 
-    // The claims by lender and borrower; held is the balances of the tracking in the security. What they are made from is taken by value, so
+    // The claims by lender and borrower; held is the balances of the tracking in the security. What they are made from is copied first, so
     // that it need not be read again behind each claim that is stored.
     fn pass_tracking(&self, write: bool, buffer: &mut [u8], n: usize, held: &[u64]) -> usize
         requires { (length held.now ≡ 256) × (all small held.now ≡ true) × Free write buffer.old n (tracking_level self.now held.now) }
