@@ -13,8 +13,9 @@ use Rattle.lists.specs.Put.{put}
 use Rattle.book.specs.declared.Book.{Book}
 use Rattle.book.specs.Soundness.{state_causes}
 use Rattle.history.specs.Results.{left_open}
-use Rattle.marks.specs.Marks.{is_mark, place_of, mark_in, day_in, count_in, balances_in, words_for, set_number, left_mark, marked_for, marked, held_by, return_number, returned_for, returned}
-use Rattle.marks.proofs.Numbers.{place_fits}
+use Rattle.marks.specs.Marks.{is_mark, place_of, mark_in, day_in, count_in, balances_in, words_for, set_number, left_mark, marked_for, marked, held_by}
+use Rattle.marks.specs.Marks.{return_causes, return_number, returned_for, returned}
+use Rattle.marks.proofs.Numbers.{place_fits, set_balances, set_mark, set_store, return_sets}
 
 -- ---- the store
 
@@ -94,3 +95,7 @@ module _ (calendar : List ℕ) (book : Book) (balances store : List ℕ) (k : �
   pub balances_held : is_mark k ≡ true → length store ≡ 32780 → length (balances_in (mark_in store k)) ≡ 8192
   unfolding balances_in
   balances_held m l = omega (arith, length-drop 3 (mark_in store k), mark_length store k m l)
+
+  -- an accepted return copies as many words as the book has
+  pub as_many : first_of (return_causes calendar book.day balances store k) ≡ 0 → length (balances_in (mark_in store k)) ≡ length balances
+  as_many z = let s = return_sets _ _ _ _ _ z in balances_held (set_mark _ _ _ _ _ s) (set_store _ _ _ _ _ s) ∙ sym (set_balances _ _ _ _ _ s)

@@ -4,7 +4,6 @@ use mathlib.Core.List.{List, ◌++◌}
 use Prim.Native.Nat.{ℕ}
 use native.Mathlib.Omega.{arith}
 use lib.ListN.{length, replicate}
-use borrow.Author.Rules.{rules}
 use Rattle.records.specs.Refusals.{judged_number}
 use Rattle.records.proofs.Refusals.{refused_number}
 use Rattle.book.proofs.Copied.{copied_whole}

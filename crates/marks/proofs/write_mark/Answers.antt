@@ -12,5 +12,6 @@ copy-requires c = omega (arith, c.requires.0, c.requires.1, c.split_at_mut-head.
 pub returns : goal.returns
 unfolding words_for
 returns c =
-    let n : length c.args.balances.now ≡ length c.split_at_mut-head.result.1.now = omega (arith, c.requires.0, c.requires.1, c.split_at_mut-head.ensures.back_len) in
+    let rest = c.split_at_mut-head.result.1.now in
+    let n : length c.args.balances.now ≡ length rest = omega (arith, c.requires.0, c.requires.1, c.split_at_mut-head.ensures.back_len) in
     rw (c.copy_from_slice.ensures.after, copied_whole _ _ _ n c.copy.ensures) refl
